@@ -1,0 +1,13 @@
+pub mod Sums
+pub mod ByRows
+pub mod Members
+pub mod EachOnce
+pub mod Scans
+pub mod Forests
+pub mod Checks
+pub mod CheckExact
+pub mod Subtrees
+pub mod Lawful
+pub mod Sampled
+pub mod Cells
+pub mod Tables

@@ -1,0 +1,6 @@
+use borrow.Author.Needs.{needs}
+use Rattle.automata.proofs.Lawful.{same-points}
+use Rattle.automata.proofs.measures.FewestPointsMeasure.value.Needs as need
+
+pub returns : need.returns
+returns c = same-points _ _ (search needs)

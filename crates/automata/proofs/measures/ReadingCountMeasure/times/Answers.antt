@@ -1,0 +1,6 @@
+use borrow.Author.Needs.{needs}
+use Rattle.automata.proofs.Lawful.{same-count}
+use Rattle.automata.proofs.measures.ReadingCountMeasure.times.Needs as need
+
+pub returns : need.returns
+returns c = same-count _ _ (search needs)
