@@ -7,6 +7,7 @@ pub mod Forests
 pub mod Checks
 pub mod CheckExact
 pub mod Subtrees
+pub mod FormList
 pub mod Lawful
 pub mod Sampled
 pub mod Cells

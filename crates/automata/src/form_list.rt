@@ -5,30 +5,20 @@ ghost use lib.ListN.{length, getD};
 ghost use lib.Dec.{ltb};
 ghost use Rattle.std.specs.Results.{isOk};
 ghost use Rattle.std.specs.declared.option.Option.the-variants.{Some, None};
-ghost use Rattle.automata.specs.Forms.{all-at-most, forms-checked};
+ghost use Rattle.automata.specs.Forms.{forms-checked};
 ghost use Rattle.automata.specs.Checked.{arities-of};
 use crate::forms::Forms;
 use crate::refusal::RegisterRefusal;
-
-// Whether no number is above the most.
-pub fn all_at_most(most: usize, numbers: &[u8]) -> bool
-    ensures { λ r. ⌜ r ≡ all-at-most most (now (numbers .entry)) ⌝ }
-{
-    for number in numbers {
-        if *number as usize > most {
-            return false;
-        }
-    }
-    true
-}
 
 impl<'f> Forms<'f> {
     // Whether these arities are a list of forms, or why not.
     pub fn check(arities: &[u8]) -> Result<(), RegisterRefusal>
         ensures { λ r. ⌜ r ≡ forms-checked (now (arities .entry)) ⌝ }
     {
-        if !all_at_most(4, arities) {
-            return Err(RegisterRefusal::HighArity);
+        for arity in arities {
+            if *arity > 4 {
+                return Err(RegisterRefusal::HighArity);
+            }
         }
         if arities.len() > 64 {
             return Err(RegisterRefusal::FullForms);
