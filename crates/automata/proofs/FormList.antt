@@ -30,6 +30,9 @@ parts a e = go (all-at-most 4 a) refl (leb (length a) 64) refl e
     go true ex false ey h = let z : _≡_ {A = ℕ} 0 1 = cc in absurd (omega arith)
     go false ex y ey h = let z : _≡_ {A = ℕ} 0 1 = cc in absurd (omega arith)
 
+pub arities-few : (a : List ℕ) → isOk (forms-checked a) ≡ true → length a ≤ 64
+arities-few a e = parts a e .0
+
 pub forms-few : (f : Forms) → length (arities-of f) ≤ 64
 forms-few f = parts (arities-of f) (f .few) .0
 

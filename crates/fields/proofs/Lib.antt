@@ -1,0 +1,5 @@
+pub mod Walking
+pub mod Cutting
+pub mod Numerals
+pub mod Placed
+pub mod Followed
