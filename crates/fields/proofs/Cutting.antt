@@ -20,7 +20,7 @@ use Rattle.fields.specs.Words.{number-of}
 pub fields-cut : (bs : List ℕ) → fields bs ≡ before 9 bs ∷ left (after 9 bs)
 fields-cut [] = refl
 fields-cut (b ∷ bs) = elim (eqb b 9) as (λ t. cond t ([] ∷ fields bs) (grow b (fields bs)) ≡ cond t [] (b ∷ before 9 bs) ∷ left (cond t (Some bs) (after 9 bs))) [
-    true ↦ refl
+  | true ↦ refl
   | false ↦ ap (grow b) (fields-cut bs)
 ]
 
@@ -35,7 +35,7 @@ lexed rest bytes e f r n front back value =
 
 lines-some : (b : ℕ) (bs : List ℕ) → (p : List ℕ) × (ps : List (List ℕ)) × (lines (b ∷ bs) ≡ p ∷ ps)
 lines-some b bs = elim (eqb b 10) as (λ t. (p : List ℕ) × (ps : List (List ℕ)) × (cond t ([] ∷ lines bs) (grow b (lines bs)) ≡ p ∷ ps)) [
-    true ↦ ([], lines bs, refl)
+  | true ↦ ([], lines bs, refl)
   | false ↦ elim (lines bs) as (λ ls. (p : List ℕ) × (ps : List (List ℕ)) × (grow b ls ≡ p ∷ ps)) [ [] ↦ (b ∷ [], [], refl) | _∷_ p ps ↦ (b ∷ p, ps, refl) ]
 ]
 

@@ -27,7 +27,7 @@ place-of n ms = place-from 0 n ms
 abbrev pub Places-exact : Type 0
 Places-exact = (n : List ℕ) (ms : List (List ℕ)) →
     ((k : ℕ) → place-of n ms ≡ Some k → (k < length ms) × (getD ms k [] ≡ n) × ((j : ℕ) → j < k → getD ms j [] ≡ n → ⊥))
-  × (place-of n ms ≡ None → (j : ℕ) → j < length ms → getD ms j [] ≡ n → ⊥)
+    × (place-of n ms ≡ None → (j : ℕ) → j < length ms → getD ms j [] ≡ n → ⊥)
 
 -- a name
 abbrev pub name-at : ℕ → ℕ → List ℕ → Result (List ℕ) Fault

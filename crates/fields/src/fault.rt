@@ -22,7 +22,11 @@ impl Fault {
     pub fn new(refusal: Refusal, line: u32) -> Fault
         ensures { λ r. ⌜ r ≡ of-refusal refusal line ⌝ }
     {
-        Fault { refusal, line, field: 0 }
+        Fault {
+            refusal,
+            line,
+            field: 0,
+        }
     }
 }
 

@@ -101,7 +101,11 @@ impl<'a> Lexer<'a> {
     {
         let text = self.next().text();
         if !is_name(text) {
-            return Err(Fault { refusal: Refusal::Sheet(SheetRefusal::Name), line, field });
+            return Err(Fault {
+                refusal: Refusal::Sheet(SheetRefusal::Name),
+                line,
+                field,
+            });
         }
         Ok(text)
     }
@@ -113,7 +117,11 @@ impl<'a> Lexer<'a> {
     {
         match self.next().number() {
             Some(n) => Ok(n),
-            None => Err(Fault { refusal: Refusal::Sheet(SheetRefusal::Number), line, field }),
+            None => Err(Fault {
+                refusal: Refusal::Sheet(SheetRefusal::Number),
+                line,
+                field,
+            }),
         }
     }
 }

@@ -34,12 +34,22 @@ pub fn given(names: &[Vec<u8>], name: &[u8], line: u32, field: u32) -> Result<us
 {
     match find(names, name) {
         Some(place) => Ok(place),
-        None => Err(Fault { refusal: Refusal::Sheet(SheetRefusal::NotGiven), line, field }),
+        None => Err(Fault {
+            refusal: Refusal::Sheet(SheetRefusal::NotGiven),
+            line,
+            field,
+        }),
     }
 }
 
 // The places of the names that are left of a line, the first of which is the given field.
-pub fn places(heap: Global, names: &[Vec<u8>], line: u32, field: u32, lexer: &mut Lexer) -> Result<Vec<u16>, Stop>
+pub fn places(
+    heap: Global,
+    names: &[Vec<u8>],
+    line: u32,
+    field: u32,
+    lexer: &mut Lexer,
+) -> Result<Vec<u16>, Stop>
     requires few { ⌜ length (now names) ≤ 65536 ⌝ }
     requires short { ⌜ field + length (to-read (now lexer)) < 65536 ⌝ }
     ensures { λ r. ⌜ Collects (places-at (map vec-items (now (names .entry))) line field (to-read (now (lexer .entry)))) r ⌝ }
@@ -60,7 +70,11 @@ pub fn fresh(names: &[Vec<u8>], name: &[u8], line: u32, field: u32) -> Result<()
     ensures { λ r. ⌜ r ≡ fresh-at (map vec-items (now (names .entry))) line field (now (name .entry)) ⌝ }
 {
     match find(names, name) {
-        Some(_) => Err(Fault { refusal: Refusal::Sheet(SheetRefusal::Given), line, field }),
+        Some(_) => Err(Fault {
+            refusal: Refusal::Sheet(SheetRefusal::Given),
+            line,
+            field,
+        }),
         None => Ok(()),
     }
 }

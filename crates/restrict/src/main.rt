@@ -10,6 +10,7 @@ use automata::measures::ReadingCountMeasure;
 use automata::measures::YesNoMeasure;
 use automata::reading_count::ReadingCount;
 use automata::refusal::Refusal;
+use automata::refusal::RefusalFromRegister;
 use automata::refusal::TicketRefusal;
 use automata::row::Row;
 use automata::worth::worth;
@@ -27,8 +28,11 @@ use std::error::AnyError;
 
 // the forms LIM, OCO and THEN
 const ARITIES: [u8; 3] = [0, 2, 2];
+
 const LIM: u16 = 0;
+
 const OCO: u16 = 1;
+
 const THEN: u16 = 2;
 
 // LIM LIM OCO
@@ -60,7 +64,7 @@ fn judge(rt: &LibcRuntime, forms: &Forms<'_>, name: &str, nodes: &[u16]) -> Resu
 }
 
 // The worth from the root, or none where the call is refused.
-fn root_worth<A: Automaton, M: Measure>(
+fn root_worth<A: Automaton, M: Measure + Clone>(
     heap: Global,
     automaton: &A,
     ticket: &CheckedTicket<'_, '_>,
@@ -92,7 +96,10 @@ fn show<A: Automaton>(
     let word = if yes.yes() { "yes" } else { "no" };
     let readings = count.count();
     let points = fewest.points();
-    println!(rt, "{name}: {word}, {readings} readings, fewest points {points}")?;
+    println!(
+        rt,
+        "{name}: {word}, {readings} readings, fewest points {points}"
+    )?;
     Ok(())
 }
 
@@ -136,7 +143,10 @@ fn show_rows(rt: &LibcRuntime, sealed: &Sealed<'_>) -> Result<(), AnyError> {
             if let Some(row) = book.row(state, place) {
                 let form = row.form;
                 let points = row.points;
-                println!(rt, "state {state}, place {place}: form {form}, {points} points")?;
+                println!(
+                    rt,
+                    "state {state}, place {place}: form {form}, {points} points"
+                )?;
             }
         }
     }
@@ -179,7 +189,12 @@ fn main(rt: LibcRuntime) -> Result<(), AnyError> {
         show_tickets(&rt, &forms)?;
         show_rules(&rt, forms)?;
     }
-    let empty = Row { form: 0, points: 0, arity: 0, children: [0; 4] };
+    let empty = Row {
+        form: 0,
+        points: 0,
+        arity: 0,
+        children: [0; 4],
+    };
     let mut rows = vec![in rt.alloc(); empty; 2048]?;
     show_register(&rt, &mut rows)
 }

@@ -70,17 +70,19 @@ pub taken : (o : Open) (after : Ledger) (l : ℕ) (e : Entry) (n : ℕ) → Ok n
     → (entering l (held o) e ≡ Ok after) × ((length (after .arities) ≡ length (held o .arities) + more-forms e) × (length (after .rows) ≡ length (held o .rows) + more-states e))
 taken o after l e n h s =
     let done : after ≡ entered (held o) e = s ∙ sym (taken-held (o .rows .now) (o .table) e n h) in
-    let sizes = entered-sizes (held o) e in
-    (ap (λ r. bind (at-register l r) (λ _. Ok (step (held o) (enter e)))) (sym h) ∙ ap Ok (sym s),
-    (ap (λ (x : Ledger). length (x .arities)) done ∙ sizes .0, ap (λ (x : Ledger). length (x .rows)) done ∙ sizes .1))
+    let sizes = entered-sizes (held o) e in (
+      ap (λ r. bind (at-register l r) (λ _. Ok (step (held o) (enter e)))) (sym h) ∙ ap Ok (sym s),
+      (ap (λ (x : Ledger). length (x .arities)) done ∙ sizes .0, ap (λ (x : Ledger). length (x .rows)) done ∙ sizes .1),
+    )
 
 -- a refused one
 pub refused : (o : Open) (after : Ledger) (l : ℕ) (e : Entry) (x : RegisterRefusal) (f : Fault) → Err x ≡ entry-answer (held o) e → after ≡ step (held o) (enter e) → f ≡ of-refusal (Register x) l
     → ((entering l (held o) e ≡ Err f) × (after ≡ held o)) × ((length (after .arities) ≡ length (held o .arities)) × (length (after .rows) ≡ length (held o .rows)))
 refused o after l e x f h s ef =
-    let same : after ≡ held o = s ∙ sym (refused-held (o .rows .now) (o .table) e x h) in
-    ((ap (λ r. bind (at-register l r) (λ _. Ok (step (held o) (enter e)))) (sym h) ∙ ap Err (sym ef), same),
-    (ap (λ (y : Ledger). length (y .arities)) same, ap (λ (y : Ledger). length (y .rows)) same))
+    let same : after ≡ held o = s ∙ sym (refused-held (o .rows .now) (o .table) e x h) in (
+      (ap (λ r. bind (at-register l r) (λ _. Ok (step (held o) (enter e)))) (sym h) ∙ ap Err (sym ef), same),
+      (ap (λ (y : Ledger). length (y .arities)) same, ap (λ (y : Ledger). length (y .rows)) same),
+    )
 
 -- an entry that returns no number
 pub numbered : (r : Result ℕ RegisterRefusal) → Ok tt ≡ unnumbered r → (n : ℕ) × (Ok n ≡ r)

@@ -60,59 +60,59 @@ counted l n fs r = cond (eqb (length fs) n) r (Err (of-field Fields l 1))
 abbrev pub form-line : ℕ → Entered → List (List ℕ) → Result Entered Fault
 form-line l e fs = counted l 2 fs
     (bind (name-at l 2 (head fs)) (λ n.
-     bind (fresh-at (e .forms) l 2 n) (λ _.
-     bind (number-at l 3 (number-of (head (others fs)))) (λ a.
-     bind (entering l (e .ledger) (add-form a)) (λ g.
-     Ok (with-form e n g))))))
+    bind (fresh-at (e .forms) l 2 n) (λ _.
+    bind (number-at l 3 (number-of (head (others fs)))) (λ a.
+    bind (entering l (e .ledger) (add-form a)) (λ g.
+    Ok (with-form e n g))))))
 
 -- S: name
 abbrev pub state-line : ℕ → Entered → List (List ℕ) → Result Entered Fault
 state-line l e fs = counted l 1 fs
     (bind (name-at l 2 (head fs)) (λ n.
-     bind (fresh-at (e .states) l 2 n) (λ _.
-     bind (entering l (e .ledger) add-state) (λ g.
-     Ok (with-state e n g)))))
+    bind (fresh-at (e .states) l 2 n) (λ _.
+    bind (entering l (e .ledger) add-state) (λ g.
+    Ok (with-state e n g)))))
 
 -- R: state, form, points, 0 to 4 children
 abbrev pub row-line : ℕ → Entered → List (List ℕ) → Result Entered Fault
 row-line l e fs = cond (leb 3 (length fs) && leb (length fs) 7)
     (bind (name-at l 2 (head fs)) (λ s.
-     bind (given-at (e .states) l 2 s) (λ q.
-     bind (name-at l 3 (head (others fs))) (λ f.
-     bind (given-at (e .forms) l 3 f) (λ p.
-     bind (number-at l 4 (number-of (head (others (others fs))))) (λ n.
-     bind (places-at (e .states) l 5 (others (others (others fs)))) (λ cs.
-     bind (entering l (e .ledger) (add-row q (as-row p n cs))) (λ g.
-     Ok (with-ledger e g)))))))))
+    bind (given-at (e .states) l 2 s) (λ q.
+    bind (name-at l 3 (head (others fs))) (λ f.
+    bind (given-at (e .forms) l 3 f) (λ p.
+    bind (number-at l 4 (number-of (head (others (others fs))))) (λ n.
+    bind (places-at (e .states) l 5 (others (others (others fs)))) (λ cs.
+    bind (entering l (e .ledger) (add-row q (as-row p n cs))) (λ g.
+    Ok (with-ledger e g)))))))))
     (Err (of-field Fields l 1))
 
 -- G: root state
 abbrev pub root-line : ℕ → Entered → List (List ℕ) → Result Entered Fault
 root-line l e fs = counted l 1 fs
     (bind (name-at l 2 (head fs)) (λ s.
-     bind (given-at (e .states) l 2 s) (λ q.
-     bind (entering l (e .ledger) (name-root q)) (λ g.
-     Ok (with-ledger e g)))))
+    bind (given-at (e .states) l 2 s) (λ q.
+    bind (entering l (e .ledger) (name-root q)) (λ g.
+    Ok (with-ledger e g)))))
 
 -- L: form, level
 abbrev pub level-line : ℕ → Entered → List (List ℕ) → Result Entered Fault
 level-line l e fs = counted l 2 fs
     (bind (name-at l 2 (head fs)) (λ f.
-     bind (given-at (e .forms) l 2 f) (λ p.
-     bind (number-at l 3 (number-of (head (others fs)))) (λ n.
-     Ok (with-level e p n)))))
+    bind (given-at (e .forms) l 2 f) (λ p.
+    bind (number-at l 3 (number-of (head (others fs)))) (λ n.
+    Ok (with-level e p n)))))
 
 -- B: outer, position, inner; at most eight
 abbrev pub bar-line : ℕ → Entered → List (List ℕ) → Result Entered Fault
 bar-line l e fs = counted l 3 fs
     (bind (name-at l 2 (head fs)) (λ f.
-     bind (given-at (e .forms) l 2 f) (λ outer.
-     bind (number-at l 3 (number-of (head (others fs)))) (λ position.
-     bind (name-at l 4 (head (others (others fs)))) (λ g.
-     bind (given-at (e .forms) l 4 g) (λ inner.
-     cond (leb 8 (length (e .bars))) (Err (of-field Many l 1))
-     (bind (at-bar l (bar-checked (e .ledger .arities) outer position inner)) (λ _.
-     Ok (with-bar e (record { outer = outer; position = position; inner = inner }))))))))))
+    bind (given-at (e .forms) l 2 f) (λ outer.
+    bind (number-at l 3 (number-of (head (others fs)))) (λ position.
+    bind (name-at l 4 (head (others (others fs)))) (λ g.
+    bind (given-at (e .forms) l 4 g) (λ inner.
+    cond (leb 8 (length (e .bars))) (Err (of-field Many l 1))
+    (bind (at-bar l (bar-checked (e .ledger .arities) outer position inner)) (λ _.
+    Ok (with-bar e (record { outer = outer; position = position; inner = inner }))))))))))
 
 -- T: any number of forms, a ticket in postfix order; at most 64
 abbrev pub ticket-line : ℕ → Entered → List (List ℕ) → Result Entered Fault

@@ -100,7 +100,11 @@ pub(crate) fn check_ticket(register: &Open<'_>, line: u32, nodes: &[u16]) -> Res
         Ok(()) => Ok(()),
         Err(refusal) => {
             let field = node_field(refusal);
-            Err(Fault { refusal: Refusal::Ticket(refusal), line, field })
+            Err(Fault {
+                refusal: Refusal::Ticket(refusal),
+                line,
+                field,
+            })
         }
     }
 }

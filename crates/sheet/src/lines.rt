@@ -60,10 +60,18 @@ impl Notes {
         ensures { λ r. ⌜ Steps (line-entered line (entered-by (now (self .entry)) (now (register .entry))) (now (bytes .entry))) (entered-by (now (self .entry)) (now (register .entry))) r (entered-by (now (self .exit)) (now (register .exit))) ⌝ }
     {
         if bytes.len() > 32768 {
-            return Err(Stop::Refused(Fault { refusal: Refusal::Sheet(SheetRefusal::Long), line: 0, field: 0 }));
+            return Err(Stop::Refused(Fault {
+                refusal: Refusal::Sheet(SheetRefusal::Long),
+                line: 0,
+                field: 0,
+            }));
         }
         if !is_plain(bytes) {
-            return Err(Stop::Refused(Fault { refusal: Refusal::Sheet(SheetRefusal::Byte), line, field: 1 }));
+            return Err(Stop::Refused(Fault {
+                refusal: Refusal::Sheet(SheetRefusal::Byte),
+                line,
+                field: 1,
+            }));
         }
         let mut lexer = Lexer::new(bytes);
         match kind(lexer.next()) {
@@ -74,17 +82,16 @@ impl Notes {
             'L' => self.level_line(register, line, lexer),
             'B' => self.bar_line(register, line, lexer),
             'T' => self.ticket_line(heap, register, line, lexer),
-            _ => Err(Stop::Refused(Fault { refusal: Refusal::Sheet(SheetRefusal::Kind), line, field: 1 })),
+            _ => Err(Stop::Refused(Fault {
+                refusal: Refusal::Sheet(SheetRefusal::Kind),
+                line,
+                field: 1,
+            })),
         }
     }
 
     // Reads all lines of a sheet into the register and these notes.
-    pub fn read(
-        &mut self,
-        heap: Global,
-        register: &mut Open<'_>,
-        sheet: &[u8],
-    ) -> Result<(), Stop>
+    pub fn read(&mut self, heap: Global, register: &mut Open<'_>, sheet: &[u8]) -> Result<(), Stop>
         ensures reads { λ r. ⌜ Reads-sheet (entered-by (now (self .entry)) (now (register .entry))) (now (sheet .entry)) r (entered-by (now (self .exit)) (now (register .exit))) ⌝ }
         ensures first_fault { λ _. ⌜ First-fault ⌝ }
         ensures in_order { λ _. ⌜ Entered-in-order ⌝ }
@@ -104,7 +111,11 @@ impl Notes {
         ensures { λ r. ⌜ Reads-sheet (entered-by (now (self .entry)) (now (register .entry))) (now (sheet .entry)) r (entered-by (now (self .exit)) (now (register .exit))) ⌝ }
     {
         if sheet.len() > 32768 {
-            return Err(Stop::Refused(Fault { refusal: Refusal::Sheet(SheetRefusal::Long), line: 0, field: 0 }));
+            return Err(Stop::Refused(Fault {
+                refusal: Refusal::Sheet(SheetRefusal::Long),
+                line: 0,
+                field: 0,
+            }));
         }
         let mut rest = sheet;
         let mut line: u32 = 0;

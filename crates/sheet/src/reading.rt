@@ -14,7 +14,6 @@ use crate::entering::enter_row;
 use crate::entering::enter_state;
 use crate::notes::BarEntry;
 use crate::notes::Notes;
-use register::open::Open;
 use automata::refusal::Refusal;
 use automata::refusal::SheetRefusal;
 use fields::fault::Fault;
@@ -26,6 +25,7 @@ use fields::lexer::Lexer;
 use fields::names::fresh;
 use fields::names::given;
 use fields::names::places;
+use register::open::Open;
 use std::alloc::Global;
 
 impl Notes {
@@ -40,7 +40,11 @@ impl Notes {
         ensures { λ r. ⌜ Steps (form-line line (entered-by (now (self .entry)) (now (register .entry))) (to-read (lexer .entry))) (entered-by (now (self .entry)) (now (register .entry))) r (entered-by (now (self .exit)) (now (register .exit))) ⌝ }
     {
         if lexer.left() != 2 {
-            return Err(Stop::Refused(Fault { refusal: Refusal::Sheet(SheetRefusal::Fields), line, field: 1 }));
+            return Err(Stop::Refused(Fault {
+                refusal: Refusal::Sheet(SheetRefusal::Fields),
+                line,
+                field: 1,
+            }));
         }
         let name = lexer.name(line, 2)?;
         fresh(&self.forms, name, line, 2)?;
@@ -68,7 +72,11 @@ impl Notes {
         ensures { λ r. ⌜ Steps (state-line line (entered-by (now (self .entry)) (now (register .entry))) (to-read (lexer .entry))) (entered-by (now (self .entry)) (now (register .entry))) r (entered-by (now (self .exit)) (now (register .exit))) ⌝ }
     {
         if lexer.left() != 1 {
-            return Err(Stop::Refused(Fault { refusal: Refusal::Sheet(SheetRefusal::Fields), line, field: 1 }));
+            return Err(Stop::Refused(Fault {
+                refusal: Refusal::Sheet(SheetRefusal::Fields),
+                line,
+                field: 1,
+            }));
         }
         let name = lexer.name(line, 2)?;
         fresh(&self.states, name, line, 2)?;
@@ -94,7 +102,11 @@ impl Notes {
     {
         let count = lexer.left();
         if count < 3 || count > 7 {
-            return Err(Stop::Refused(Fault { refusal: Refusal::Sheet(SheetRefusal::Fields), line, field: 1 }));
+            return Err(Stop::Refused(Fault {
+                refusal: Refusal::Sheet(SheetRefusal::Fields),
+                line,
+                field: 1,
+            }));
         }
         let name = lexer.name(line, 2)?;
         let state = given(&self.states, name, line, 2)?;
@@ -116,7 +128,11 @@ impl Notes {
         ensures { λ r. ⌜ Steps (root-line line (entered-by (now (self .entry)) (now (register .entry))) (to-read (lexer .entry))) (entered-by (now (self .entry)) (now (register .entry))) r (entered-by (now (self .exit)) (now (register .exit))) ⌝ }
     {
         if lexer.left() != 1 {
-            return Err(Stop::Refused(Fault { refusal: Refusal::Sheet(SheetRefusal::Fields), line, field: 1 }));
+            return Err(Stop::Refused(Fault {
+                refusal: Refusal::Sheet(SheetRefusal::Fields),
+                line,
+                field: 1,
+            }));
         }
         let name = lexer.name(line, 2)?;
         let state = given(&self.states, name, line, 2)?;
@@ -134,7 +150,11 @@ impl Notes {
         ensures { λ r. ⌜ Steps (level-line line (entered-by (now (self .entry)) (now (register .entry))) (to-read (lexer .entry))) (entered-by (now (self .entry)) (now (register .entry))) r (entered-by (now (self .exit)) (now (register .exit))) ⌝ }
     {
         if lexer.left() != 2 {
-            return Err(Stop::Refused(Fault { refusal: Refusal::Sheet(SheetRefusal::Fields), line, field: 1 }));
+            return Err(Stop::Refused(Fault {
+                refusal: Refusal::Sheet(SheetRefusal::Fields),
+                line,
+                field: 1,
+            }));
         }
         let name = lexer.name(line, 2)?;
         let form = given(&self.forms, name, line, 2)?;
@@ -153,7 +173,11 @@ impl Notes {
         ensures { λ r. ⌜ Steps (bar-line line (entered-by (now (self .entry)) (now (register .entry))) (to-read (lexer .entry))) (entered-by (now (self .entry)) (now (register .entry))) r (entered-by (now (self .exit)) (now (register .exit))) ⌝ }
     {
         if lexer.left() != 3 {
-            return Err(Stop::Refused(Fault { refusal: Refusal::Sheet(SheetRefusal::Fields), line, field: 1 }));
+            return Err(Stop::Refused(Fault {
+                refusal: Refusal::Sheet(SheetRefusal::Fields),
+                line,
+                field: 1,
+            }));
         }
         let name = lexer.name(line, 2)?;
         let outer = given(&self.forms, name, line, 2)?;
@@ -161,9 +185,17 @@ impl Notes {
         let name = lexer.name(line, 4)?;
         let inner = given(&self.forms, name, line, 4)?;
         if self.bars.len() >= 8 {
-            return Err(Stop::Refused(Fault { refusal: Refusal::Sheet(SheetRefusal::Many), line, field: 1 }));
+            return Err(Stop::Refused(Fault {
+                refusal: Refusal::Sheet(SheetRefusal::Many),
+                line,
+                field: 1,
+            }));
         }
-        let bar = BarEntry { outer: outer as u16, position, inner: inner as u16 };
+        let bar = BarEntry {
+            outer: outer as u16,
+            position,
+            inner: inner as u16,
+        };
         check_bar(register, line, bar.outer, bar.position, bar.inner)?;
         self.bars.push(bar)?;
         Ok(())
@@ -182,7 +214,11 @@ impl Notes {
     {
         let nodes = places(heap, &self.forms, line, 2, &mut lexer)?;
         if self.tickets.len() >= 64 {
-            return Err(Stop::Refused(Fault { refusal: Refusal::Sheet(SheetRefusal::Many), line, field: 1 }));
+            return Err(Stop::Refused(Fault {
+                refusal: Refusal::Sheet(SheetRefusal::Many),
+                line,
+                field: 1,
+            }));
         }
         check_ticket(register, line, &nodes)?;
         self.tickets.push(nodes)?;

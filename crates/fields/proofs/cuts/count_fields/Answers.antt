@@ -12,7 +12,7 @@ pub loop-b-again : need.loop-b-again
 loop-b-again c =
     let step = at-drop-more (λ l. length (fields l)) (c .args .line .now) (c .loop-b .b-index) 0 (c .loop-b-test .taken) in
     elim (c .if-b-eq9 .came) [
-        then-b-eq9 w ↦ (omega (arith, w .n-is), omega (arith, w .n-is, step, count-tab (getD (c .args .line .now) (c .loop-b .b-index) 0) (drop (c .loop-b .b-index + 1) (c .args .line .now)) (w .if-b-eq9 .taken)))
+      | then-b-eq9 w ↦ (omega (arith, w .n-is), omega (arith, w .n-is, step, count-tab (getD (c .args .line .now) (c .loop-b .b-index) 0) (drop (c .loop-b .b-index + 1) (c .args .line .now)) (w .if-b-eq9 .taken)))
       | else-b-eq9 w ↦ (omega (arith, w .n-is), omega (arith, w .n-is, step, count-other (getD (c .args .line .now) (c .loop-b .b-index) 0) (drop (c .loop-b .b-index + 1) (c .args .line .now)) (w .if-b-eq9 .left)))
     ]
 

@@ -14,8 +14,7 @@ use Rattle.fields.proofs.names.places.Needs as need
 pub loop-lexer-again : need.loop-lexer-again
 loop-lexer-again c =
     let fs = to-read (c .loop-lexer .lexer) in
-    let some : 0 < length fs = some-left (to-read (c .loop-lexer .lexer)) (sym (c .is-done .ensures) ∙ c .loop-lexer-test .taken) in
-    (
+    let some : 0 < length fs = some-left (to-read (c .loop-lexer .lexer)) (sym (c .is-done .ensures) ∙ c .loop-lexer-test .taken) in (
       omega (arith, c .loop-lexer .inv .0, others-length fs some, ap length (c .name .ensures .after)),
       c .loop-lexer .inv .1 ∙ places-more (map vec-items (c .args .names .now)) (c .args .line) _ fs _ _ (c .in-Continue-place .place) _ _ some (sym (c .in-Continue-name .ensures tt .value)) (sym (c .in-Continue-place .ensures tt)) (c .name .ensures .after) (c .in-Continue-push .ensures tt .items),
     )

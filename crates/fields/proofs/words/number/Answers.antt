@@ -16,7 +16,7 @@ returns-then-n-gt65535 c = sym (c .loop-b .inv .1 ∙ onward-over _ _ _ (c .loop
 pub loop-b-holds : need.loop-b-holds
 loop-b-holds c =
     let plain : 1 < length (c .args .field .now) → getD (c .args .field .now) 0 0 ≡ 48 → ⊥ = elim (c .else-field-gt1 .came) [
-        else-field-gt1·by·then-field-gt1·else-field-eq48 w ↦ λ _. w .if-field-eq48 .left
+      | else-field-gt1·by·then-field-gt1·else-field-eq48 w ↦ λ _. w .if-field-eq48 .left
       | else-field-gt1·by·else-field-gt1 w ↦ λ lt. absurd (omega (arith, w .if-field-gt1 .left))
     ] in
     (omega arith, no-leading _ (omega (arith, false-eqb _ 0 (c .if-is-empty .ensures tt))) plain)
