@@ -1,0 +1,12 @@
+use mathlib.Core.Path.{_≡_}
+use Prim.Native.Nat.{_-_}
+use lib.ListN.{length}
+use Rattle.layers.specs.Marks.{mark, marked}
+use Rattle.layers.specs.Growth.{All-productive}
+use Rattle.layers.proofs.productive.productive.Given as given
+
+abbrev pub Inv-loop-marks : given.InvT-loop-marks
+Inv-loop-marks g l = All-productive (g .A·Automaton .meaning (l .below)) (l .marks) × (length (l .marks) ≡ 1024)
+
+abbrev pub μ-loop-marks : given.MeasureT-loop-marks
+μ-loop-marks g l = 1024 - marked (mark (l .marks)) 1024

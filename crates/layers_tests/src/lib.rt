@@ -1,0 +1,5 @@
+// Tests of the layers over small automata.
+
+pub mod samples;
+#[cfg(test)]
+mod tests;
