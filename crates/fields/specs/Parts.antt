@@ -2,7 +2,8 @@
 use mathlib.Core.Path.{_≡_}
 use mathlib.Core.Bool.{Bool, true, false, cond}
 use mathlib.Core.List.{List, [], _∷_, _++_}
-use Prim.Native.Nat.{ℕ}
+use Prim.Native.Nat.{ℕ, _<_}
+use lib.ListN.{length}
 use lib.Dec.{eqb}
 use Rattle.std.specs.shelf.Lists.{All}
 use denote.Ref.{RefT}
@@ -41,6 +42,11 @@ seen (Some x) = Some (x .now)
 abbrev pub left : Option (List ℕ) → List (List ℕ)
 left None = []
 left (Some bs) = fields bs
+
+-- no line, or the first and what is left, which is shorter
+abbrev pub First-line : List ℕ → Option (RefT (List ℕ) × RefT (List ℕ)) → Type 0
+First-line bs None = bs ≡ []
+First-line bs (Some p) = (lines bs ≡ p .0 .now ∷ lines (p .1 .now)) × (length (p .1 .now) < length bs)
 
 -- lines with an LF after each
 abbrev pub ended : List (List ℕ) → List ℕ

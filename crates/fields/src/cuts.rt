@@ -1,9 +1,7 @@
 // Parts of a sheet: what stands before and after a mark.
 ghost use mathlib.Core.Path.{_≡_};
-ghost use mathlib.Core.List.{_∷_};
 ghost use lib.ListN.{length};
-ghost use Prim.Native.Nat.{_<_};
-ghost use Rattle.fields.specs.Parts.{before, after, seen, fields, lines};
+ghost use Rattle.fields.specs.Parts.{before, after, seen, fields, First-line};
 
 // The bytes before the first `mark`, and those after it if it stands there.
 pub fn cut<'a>(bytes: &'a [u8], mark: u8) -> (&'a [u8], Option<&'a [u8]>)
@@ -18,16 +16,17 @@ pub fn cut<'a>(bytes: &'a [u8], mark: u8) -> (&'a [u8], Option<&'a [u8]>)
     (bytes, None)
 }
 
-// The first line of what is left of a sheet, and what follows it.
-pub fn cut_line<'a>(rest: &'a [u8]) -> (&'a [u8], &'a [u8])
-    requires { ⌜ 0 < length (now rest) ⌝ }
-    ensures value { λ r. ⌜ lines (now (rest .entry)) ≡ now (r .0) ∷ lines (now (r .1)) ⌝ }
-    ensures bound { λ r. ⌜ length (now (r .1)) < length (now (rest .entry)) ⌝ }
+// The first line of what is left of a sheet and what follows it, or none where nothing is left.
+pub fn cut_line<'a>(rest: &'a [u8]) -> Option<(&'a [u8], &'a [u8])>
+    ensures { λ r. ⌜ First-line (now (rest .entry)) r ⌝ }
 {
+    if rest.is_empty() {
+        return None;
+    }
     let (line, after) = cut(rest, b'\n');
     match after {
-        Some(more) => (line, more),
-        None => (line, &[]),
+        Some(more) => Some((line, more)),
+        None => Some((line, &[])),
     }
 }
 

@@ -1,8 +1,6 @@
 // Names in a list of names.
 ghost use mathlib.Core.Path.{_≡_};
 ghost use mathlib.Core.List.{map};
-ghost use Prim.Native.Nat.{_+_, _<_, _≤_};
-ghost use lib.ListN.{length};
 ghost use Rattle.std.specs.Of.Vec.{vec-items};
 ghost use Rattle.fields.specs.Fault.{Collects};
 ghost use Rattle.fields.specs.Tokens.{to-read};
@@ -42,7 +40,8 @@ pub fn given(names: &[Vec<u8>], name: &[u8], line: u32, field: u32) -> Result<us
     }
 }
 
-// The places of the names that are left of a line, the first of which is the given field.
+// The places of the names that are left of a line, the first of which is the given field. A place or a field that does
+// not fit its type is answered as want of memory.
 pub fn places(
     heap: Global,
     names: &[Vec<u8>],
@@ -50,8 +49,6 @@ pub fn places(
     field: u32,
     lexer: &mut Lexer,
 ) -> Result<Vec<u16>, Stop>
-    requires few { ⌜ length (now names) ≤ 65536 ⌝ }
-    requires short { ⌜ field + length (to-read (now lexer)) < 65536 ⌝ }
     ensures { λ r. ⌜ Collects (places-at (map vec-items (now (names .entry))) line field (to-read (now (lexer .entry)))) r ⌝ }
 {
     let mut found = Vec::new(heap);
@@ -59,6 +56,9 @@ pub fn places(
     while !lexer.is_done() {
         let name = lexer.name(line, at)?;
         let place = given(names, name, line, at)?;
+        if place > 65535 || at >= u32::MAX {
+            return Err(Stop::Memory);
+        }
         found.push(place as u16)?;
         at += 1;
     }

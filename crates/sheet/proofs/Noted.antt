@@ -31,16 +31,14 @@ use Rattle.fields.specs.Names.{given-at}
 use Rattle.fields.proofs.Placed.{given-within}
 use mathlib.Core.Bool.{true, false}
 use lib.Dec.{leb}
-use Rattle.std.proofs.shelf.Tests.{cond-true, cond-false, le-leb, cases-eq}
+use Rattle.std.proofs.shelf.Tests.{cond-true, cond-false, le-leb}
 use Rattle.fields.specs.Names.{places-at}
 use Rattle.fields.proofs.Followed.{past, stopped}
 use Rattle.sheet.specs.Entered.{Entered}
-use mathlib.Core.Logic.{⊎-elim}
 use Rattle.fields.specs.Parts.{fields}
 use Rattle.fields.specs.Words.{all, plain}
 use Rattle.fields.specs.Tokens.{Word, first, head, spelled}
 use Rattle.fields.proofs.Followed.{spelled-first}
-use Rattle.fields.proofs.Cutting.{count-tab, count-other}
 use Rattle.sheet.specs.Lines.{at-register, entering, at-ticket, ticket-line, letter, by-kind, line-entered}
 use Rattle.sheet.specs.Taken.{Takes, Grows}
 
@@ -99,10 +97,6 @@ given-below v names l k n p e h =
     let within = given-within (map vec-items names) l k n p (sym h) in
     omega (arith, length-map names vec-items, ap length e, v .ok .0)
 
-pub others-short : (fs : List (List ℕ)) → length (others fs) ≤ length fs
-others-short [] = omega arith
-others-short (f ∷ fs) = omega arith
-
 -- how many there are, as the list of what they say
 pub lists-long : {X Y : Type 0} (v : Vec X Global) (f : X → Y) → length (map f (vec-items v)) ≡ vec-len v
 lists-long v f = length-map (vec-items v) f ∙ sym (v .ok .0)
@@ -128,7 +122,3 @@ line-by-kind l e bs k fs short allowed kind rest =
 -- the kind of a line, as the lexer's first word spells it
 pub kind-spelled : (bs : List ℕ) (w : Word) (k : ℕ) → w ≡ first (fields bs) → k ≡ letter (spelled w) → k ≡ letter (head (fields bs))
 kind-spelled bs w k e h = h ∙ ap (λ x. letter (spelled x)) e ∙ ap letter (spelled-first (fields bs))
-
-pub fields-few : (bs : List ℕ) → length (fields bs) ≤ length bs + 1
-fields-few [] = omega arith
-fields-few (b ∷ bs) = let h = fields-few bs in ⊎-elim (λ (e : b ≡ 9). let c = count-tab b bs e in omega arith) (λ ne. let c = count-other b bs ne in omega arith) (cases-eq b 9)

@@ -119,11 +119,12 @@ impl Notes {
         }
         let mut rest = sheet;
         let mut line: u32 = 0;
-        while !rest.is_empty() {
-            let (bytes, after) = cut_line(rest);
+        while let Some((bytes, after)) = cut_line(rest) {
             line += 1;
-            self.line(heap, register, line, bytes)?;
-            rest = after;
+            match self.line(heap, register, line, bytes) {
+                Ok(()) => rest = after,
+                Err(stop) => return Err(stop),
+            }
         }
         Ok(())
     }

@@ -1,7 +1,5 @@
 // What each kind of line enters. A refused line enters nothing.
 ghost use mathlib.Core.Path.{_≡_};
-ghost use Prim.Native.Nat.{_<_};
-ghost use lib.ListN.{length};
 ghost use Rattle.fields.specs.Fault.{Steps};
 ghost use Rattle.fields.specs.Tokens.{to-read};
 ghost use Rattle.sheet.specs.Lines.{form-line, state-line, row-line, root-line, level-line, bar-line, ticket-line};
@@ -209,7 +207,6 @@ impl Notes {
         line: u32,
         mut lexer: Lexer,
     ) -> Result<(), Stop>
-        requires { ⌜ length (to-read lexer) < 65534 ⌝ }
         ensures { λ r. ⌜ Steps (ticket-line line (entered-by (now (self .entry)) (now (register .entry))) (to-read (lexer .entry))) (entered-by (now (self .entry)) (now (register .entry))) r (entered-by (now (self .exit)) (now (register .exit))) ⌝ }
     {
         let nodes = places(heap, &self.forms, line, 2, &mut lexer)?;

@@ -12,13 +12,8 @@ use Rattle.fields.specs.Tokens.{word, others, to-read}
 use Rattle.sheet.specs.Entered.{Entered}
 use Rattle.sheet.specs.Lines.{by-kind, line-entered, form-line, state-line, row-line, root-line, level-line, bar-line, ticket-line}
 use Rattle.sheet.specs.Held.{entered-by}
-use Rattle.sheet.proofs.Noted.{line-by-kind, kind-spelled, fields-few, others-short}
+use Rattle.sheet.proofs.Noted.{line-by-kind, kind-spelled}
 use Rattle.sheet.proofs.notes.Notes.line.Needs as need
-
-pub ticket-line-requires : need.ticket-line-requires
-ticket-line-requires c κs =
-    let bs = c .args .bytes .now in
-    omega (arith, fields-few bs, others-short (fields bs), ap length (c .next .ensures .after), ap (λ (fs : List (List ℕ)). length (others fs)) (c .new-lexer .ensures), c .if-bytes-gt32768 .left)
 
 pub returns-in-F : need.returns-in-F
 returns-in-F c =

@@ -7,13 +7,8 @@ use Rattle.fields.specs.Tokens.{to-read}
 use Rattle.fields.proofs.Followed.{refuses}
 use Rattle.sheet.specs.Lines.{row-line}
 use Rattle.sheet.specs.Held.{entered-by}
-use Rattle.sheet.proofs.Noted.{given-below, others-short}
+use Rattle.sheet.proofs.Noted.{given-below}
 use Rattle.sheet.proofs.notes.Notes.row_line.Needs as need
-
-pub places-requires : need.places-requires
-places-requires c κs =
-    let r = c .args .self .now in
-    record { few = omega (arith, r .stated, c .deref-3 .ensures .len); short = omega (arith, c .left-count .ensures, others-short (to-read (c .args .lexer)), others-short (to-read (c .name .last .self)), others-short (to-read (c .name-2 .last .self)), ap length (c .name .ensures .after), ap length (c .name-2 .ensures .after), ap length (c .number .ensures .after)) }
 
 pub cast-form : need.cast-form
 cast-form c =

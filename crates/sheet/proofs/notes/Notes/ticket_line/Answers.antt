@@ -22,11 +22,6 @@ use Rattle.sheet.specs.Held.{entered-by}
 use Rattle.sheet.proofs.Noted.{lists-long, ticket-refused}
 use Rattle.sheet.proofs.notes.Notes.ticket_line.Needs as need
 
-pub places-requires : need.places-requires
-places-requires c κs =
-    let r = c .args .self .now in
-    record { few = omega (arith, r .formed, c .deref .ensures .len); short = omega (arith, c .pre) }
-
 pub returns-then-len-ge64 : need.returns-then-len-ge64
 returns-then-len-ge64 c =
     let full : leb 64 (length (map vec-items (vec-items (c .args .self .now .tickets)))) ≡ true = le-leb 64 _ (omega (arith, lists-long (c .args .self .now .tickets) vec-items, c .len .ensures)) in
