@@ -1,8 +1,3 @@
-pub mod Products
-pub mod Sized
-pub mod Pairs
-pub mod PairWorth
-pub mod JointRow
 pub mod Marking
 pub mod Productives
 pub mod Searches
@@ -11,12 +6,3 @@ pub mod Readiness
 pub mod Collecting
 pub mod Growing
 pub mod Trims
-pub mod Tally
-pub mod Merging
-pub mod ByList
-pub mod Merges
-pub mod Keys
-pub mod Keying
-pub mod KeyTables
-pub mod Refining
-pub mod Renaming

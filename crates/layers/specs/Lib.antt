@@ -1,10 +1,7 @@
-pub mod Product
 pub mod Marks
 pub mod Search
 pub mod Sweep
 pub mod Rows
 pub mod Trim
 pub mod Growth
-pub mod Merge
-pub mod Refine
 pub mod Soundness

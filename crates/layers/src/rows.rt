@@ -7,7 +7,7 @@ ghost use Rattle.layers.specs.Marks.{mark, all-marked};
 use automata::row::Row;
 
 // How many children a row has.
-pub(crate) fn width(row: Row) -> usize
+pub fn width(row: Row) -> usize
     ensures value { λ r. ⌜ r ≡ length (production row .children) ⌝ }
     ensures few { λ r. ⌜ r ≤ 4 ⌝ }
 {

@@ -22,7 +22,7 @@ fn rows_at<A: Automaton>(heap: Global, below: &A, state: usize) -> Result<Vec<Ro
 }
 
 // The rows of every state.
-pub(crate) fn table<A: Automaton>(heap: Global, below: &A) -> Result<Vec<Vec<Row>>, AllocError>
+pub fn table<A: Automaton>(heap: Global, below: &A) -> Result<Vec<Vec<Row>>, AllocError>
     ensures { λ r. ⌜ made r (λ v. TableTo (A·Automaton .meaning (now (below .entry))) (vec-items v) (A·Automaton .meaning (now (below .entry)) .states)) ⌝ }
 {
     let mut all = Vec::new(heap);

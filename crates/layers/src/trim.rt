@@ -1,10 +1,10 @@
 // Trim: only the rows that a whole ticket from the root can use.
 ghost use mathlib.Core.Path.{_≡_};
-ghost use mathlib.Core.Bool.{false};
-ghost use lib.ListN.{length};
+ghost use mathlib.Core.Bool.{true, false};
+ghost use lib.ListN.{length, drop};
 ghost use Rattle.std.specs.Results.{isOk};
 ghost use Rattle.automata.specs.Checked.{ticket-of};
-ghost use Rattle.automata.specs.Table.{worth-answer};
+ghost use Rattle.automata.specs.Table.{Holds-worths, cells-needed, worth-answer};
 ghost use Rattle.std.specs.Of.Vec.{vec-items};
 ghost use Rattle.std.specs.Vec.{made};
 ghost use Rattle.layers.specs.Marks.{mark};
@@ -52,12 +52,15 @@ impl<A: Automaton + Drop> Trim<A> {
 
 impl<A: Automaton> Trim<A> {
     // The worth of a ticket from the root. In a trim that was made by `new` it is the worth from the root below.
+    // The scratch then has the worth of each subtree from each state, and is unchanged beyond and on a refusal.
     pub fn root_worth<M: Measure>(
         &self,
         ticket: &CheckedTicket<'_, '_>,
         scratch: &mut [M],
     ) -> Result<M, WorthRefusal>
         ensures answers { λ r. ⌜ r ≡ worth-answer (M·Measure .ops) (pruned (mark (vec-items (now (self .entry) .kept))) (mark (vec-items (now (self .entry) .productive))) (A·Automaton .meaning (now (self .entry) .below))) (ticket-of (now (ticket .entry))) (A·Automaton .meaning (now (self .entry) .below) .root) (length (now (scratch .entry))) ⌝ }
+        ensures cells { λ r. ⌜ (isOk r ≡ true → Holds-worths (M·Measure .ops) (pruned (mark (vec-items (now (self .entry) .kept))) (mark (vec-items (now (self .entry) .productive))) (A·Automaton .meaning (now (self .entry) .below))) (ticket-of (now (ticket .entry))) (now (scratch .exit))) ⌝ }
+        ensures beyond { λ r. ⌜ (isOk r ≡ true → drop (cells-needed (pruned (mark (vec-items (now (self .entry) .kept))) (mark (vec-items (now (self .entry) .productive))) (A·Automaton .meaning (now (self .entry) .below))) (ticket-of (now (ticket .entry)))) (now (scratch .exit)) ≡ drop (cells-needed (pruned (mark (vec-items (now (self .entry) .kept))) (mark (vec-items (now (self .entry) .productive))) (A·Automaton .meaning (now (self .entry) .below))) (ticket-of (now (ticket .entry)))) (now (scratch .entry))) ⌝ }
         ensures same { λ r. ⌜ (isOk r ≡ false → now (scratch .exit) ≡ now (scratch .entry)) ⌝ }
         ensures preserves { λ _. ⌜ Trim-preserves (M·Measure .ops) ⌝ }
         ensures barren { λ _. ⌜ Trim-barren ⌝ }

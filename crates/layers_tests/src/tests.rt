@@ -10,13 +10,13 @@ use automata::refusal::PileRefusal;
 use automata::refusal::PileRefusalDebug;
 use automata::refusal::SearchRefusalDebug;
 use layers::line::Line;
-use layers::merge::Merge;
-use layers::merge::MergeAutomaton;
-use layers::product::Product;
-use layers::product::ProductAutomaton;
 use layers::search::search;
 use layers::trim::Trim;
 use layers::trim::TrimAutomaton;
+use merge::merge::Merge;
+use merge::merge::MergeAutomaton;
+use product::product::Product;
+use product::product::ProductAutomaton;
 use std::test::*;
 
 // 1,024 states and 65,536 places are a product, and no more.

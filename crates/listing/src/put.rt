@@ -82,5 +82,5 @@ pub fn put_row(
 {
     let name = name_of(names, row.form as usize);
     let children = &row.children[..width(row)];
-    put_row_line(out, heap, state, name, row.form, children)
+    put_row_line(out, heap, state, name, row.points, children)
 }

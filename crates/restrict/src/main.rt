@@ -1,10 +1,10 @@
 // The program: reads a rule sheet from standard input, and writes the listing of the house grammar or the fault that
 // stopped it.
-use house::answer::answer;
-use house::house::House;
 use automata::row::Row;
 use fields::fault::Fault;
 use fields::fault::Stop;
+use house::answer::answer;
+use house::house::House;
 use listing::faults::fault_line;
 use std::error::AnyError;
 use std::io::Read;
@@ -48,7 +48,12 @@ fn main(rt: LibcRuntime) -> Result<(), AnyError> {
     let heap = rt.alloc();
     let mut sheet = Vec::new(heap);
     rt.stdin().read_to_end(&mut sheet)?;
-    let empty = Row { form: 0, points: 0, arity: 0, children: [0; 4] };
+    let empty = Row {
+        form: 0,
+        points: 0,
+        arity: 0,
+        children: [0; 4],
+    };
     let mut rows = vec![in heap; empty; 2048]?;
     match answer(heap, &mut rows, &sheet) {
         Ok(house) => {

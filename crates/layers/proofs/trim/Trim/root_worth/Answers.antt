@@ -14,6 +14,8 @@ returns g c =
     let t = c .args .self .now in
     record {
       answers = c .worth .ensures .answers ∙ ap (λ (s : ℕ). worth-answer (g .M·Measure .ops) (pruned (mark (vec-items (t .kept))) (mark (vec-items (t .productive))) (g .A·Automaton .meaning (t .below))) (ticket-of (c .args .ticket .now)) s (length (c .args .scratch .now))) (c .root .ensures);
+      cells = c .worth .ensures .cells;
+      beyond = c .worth .ensures .beyond;
       same = c .worth .ensures .same;
       preserves = trim-preserves (g .M·Measure .ops);
       barren = trim-barren;

@@ -1,0 +1,9 @@
+pub mod Tally
+pub mod Merging
+pub mod ByList
+pub mod Merges
+pub mod Keys
+pub mod Keying
+pub mod KeyTables
+pub mod Refining
+pub mod Renaming

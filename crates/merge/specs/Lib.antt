@@ -1,0 +1,3 @@
+pub mod Merge
+pub mod Refine
+pub mod Soundness

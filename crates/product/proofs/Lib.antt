@@ -1,0 +1,5 @@
+pub mod Products
+pub mod Sized
+pub mod Pairs
+pub mod PairWorth
+pub mod JointRow
