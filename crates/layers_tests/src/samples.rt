@@ -16,7 +16,7 @@ pub struct Bare {
 }
 
 impl Bare {
-    pub fn new(states: usize, places: usize) -> Bare
+    pub(crate) fn new(states: usize, places: usize) -> Bare
         requires states { ⌜ 0 < states ⌝ ∗ ⌜ states ≤ 1024 ⌝ }
         requires places { ⌜ 0 < places ⌝ ∗ ⌜ places ≤ 65536 ⌝ }
     {
@@ -54,7 +54,7 @@ pub struct Chain {
 }
 
 impl Chain {
-    pub fn new(last: u16) -> Chain
+    pub(crate) fn new(last: u16) -> Chain
         requires { ⌜ last < 1024 ⌝ }
     {
         Chain { last }
@@ -109,7 +109,7 @@ pub struct Ring {
 }
 
 impl Ring {
-    pub fn new(last: u16) -> Ring
+    pub(crate) fn new(last: u16) -> Ring
         requires { ⌜ last < 1024 ⌝ }
     {
         Ring { last }

@@ -6,9 +6,18 @@ use crate::samples::ChainAutomaton;
 use crate::samples::Ring;
 use crate::samples::RingAutomaton;
 use automata::automaton::Automaton;
+use automata::checked::CheckedTicket;
+use automata::forms::Forms;
+use automata::measure::Measure;
+use automata::measures::ReadingCountMeasure;
+use automata::reading_count::ReadingCount;
 use automata::refusal::PileRefusal;
 use automata::refusal::PileRefusalDebug;
+use automata::refusal::RegisterRefusalDebug;
 use automata::refusal::SearchRefusalDebug;
+use automata::refusal::TicketRefusalDebug;
+use automata::refusal::WorthRefusalDebug;
+use automata::worth::worth;
 use layers::line::Line;
 use layers::search::search;
 use layers::trim::Trim;
@@ -61,4 +70,20 @@ fn merges(rt: LibcRuntime) -> Result<(), Fail> {
     check(apart.root() == 20)?;
     let one = Merge::new(rt.alloc(), Ring::new(20))?;
     check(one.root() == 0)
+}
+
+// A ticket of 256 nodes over 64 states × 64 places: each of its 1,048,576 row questions is asked once. To be timed by
+// hand.
+#[test]
+fn large_worth(rt: LibcRuntime) -> Result<(), Fail> {
+    let arities = [0, 1];
+    Forms::check(&arities)?;
+    let forms = Forms::new(&arities);
+    let mut nodes = [1; 256];
+    nodes[0] = 0;
+    CheckedTicket::check(&forms, &nodes)?;
+    let ticket = CheckedTicket::new(forms, &nodes);
+    let mut scratch = vec![in rt.alloc(); ReadingCount::nothing(); 16384]?;
+    let count = worth(&Bare::new(64, 64), &ticket, 63, &mut scratch)?;
+    check_eq(count.count(), 0)
 }
