@@ -1,0 +1,2 @@
+mod Barren
+mod Counted

@@ -5,7 +5,7 @@ ghost use Rattle.examples.specs.Examples.{Examples};
 // How many examples there are; its contract holds them all.
 pub fn examples() -> usize
     ensures hold { λ _. ⌜ Examples ⌝ }
-    ensures count { λ r. ⌜ r ≡ 8 ⌝ }
+    ensures count { λ r. ⌜ r ≡ 13 ⌝ }
 {
-    8
+    13
 }

@@ -9,11 +9,13 @@ ghost use Rattle.sheet.specs.Held.{lists};
 ghost use Rattle.listing.specs.Listing.{listing-answer};
 ghost use Rattle.house.specs.House.{house-answer, Told};
 use crate::house::House;
+use crate::report::report;
 use automata::refusal::Refusal;
 use automata::refusal::RegisterRefusal;
 use automata::row::Row;
 use fields::fault::Fault;
 use fields::fault::Stop;
+use fields::fault::StopFromAlloc;
 use listing::rows::count_rows;
 use listing::whole::listing;
 use register::open::Open;
@@ -36,6 +38,7 @@ fn count_levels(levels: &[u16]) -> usize {
 fn listed(heap: Global, sealed: &Sealed<'_>, notes: &Notes) -> Result<House, Stop>
     ensures { λ r. ⌜ Told (listing-answer (lists (now (notes .entry) .forms)) (held-sealed (now (sealed .entry))) (lists (now (notes .entry) .tickets))) r ⌝ }
 {
+    let report = report(heap, sealed, notes)?;
     match listing(heap, &notes.forms, sealed, &notes.tickets) {
         Ok(listing) => Ok(House {
             listing,
@@ -45,6 +48,7 @@ fn listed(heap: Global, sealed: &Sealed<'_>, notes: &Notes) -> Result<House, Sto
             levels: count_levels(&notes.levels),
             bars: notes.bars.len(),
             tickets: notes.tickets.len(),
+            report,
         }),
         Err(stop) => Err(stop),
     }

@@ -11,4 +11,6 @@ pub struct House {
     pub levels: usize,
     pub bars: usize,
     pub tickets: usize,
+    // what each restriction makes of it, in words
+    pub report: String,
 }

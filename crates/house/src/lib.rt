@@ -2,3 +2,4 @@
 
 pub mod answer;
 pub mod house;
+mod report;

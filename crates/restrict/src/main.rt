@@ -25,6 +25,8 @@ fn report_house(rt: &LibcRuntime, house: &House) -> Result<(), AnyError> {
         rt,
         "read {forms} forms, {states} states, {rows} rows, {levels} levels, {bars} bars, {tickets} tickets"
     )?;
+    let restrictions = house.report.as_str();
+    eprint!(rt, "{restrictions}")?;
     Ok(())
 }
 

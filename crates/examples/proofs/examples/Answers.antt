@@ -2,6 +2,8 @@ use mathlib.Core.Path.{refl}
 use Rattle.examples.specs.Examples.{Examples}
 use Rattle.register.specs.Ledger.{step, accepted}
 use Rattle.automata.proofs.Lawful.{same-points}
+use Rattle.examples.proofs.Barren.{endless-is-barren}
+use Rattle.examples.proofs.Counted.{rows-are-counted}
 use Rattle.examples.proofs.examples.Needs as need
 
 examples : Examples
@@ -15,6 +17,11 @@ examples = record {
   two-rows-cost-one = refl;
   struck-reads-once = refl;
   struck-costs-four = refl;
+  pair-is-thirteen = refl;
+  product-reads-four = refl;
+  product-costs-two = refl;
+  endless-is-barren = endless-is-barren;
+  rows-are-counted = rows-are-counted;
 }
 
 pub returns : need.returns
