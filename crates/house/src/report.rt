@@ -1,7 +1,6 @@
 // What the sheet's restrictions make of the house grammar, each by itself, in words for a person.
 use automata::automaton::Automaton;
 use automata::forms::Forms;
-use automata::refusal::PileRefusal;
 use automata::refusal::Refusal;
 use automata::row::Row;
 use layers::line::Line;
@@ -84,9 +83,10 @@ fn put_size(out: &mut String, heap: Global, name: &str, size: Size) -> Result<()
     put_text(out, text.as_str())
 }
 
-fn put_refusal(out: &mut String, heap: Global, refusal: PileRefusal) -> Result<(), AllocError> {
-    let number = Refusal::Pile(refusal).number();
-    let text = format!(heap, "  refused: pile {number}\n")?;
+fn put_refusal(out: &mut String, heap: Global, refusal: Refusal) -> Result<(), AllocError> {
+    let layer = refusal.layer();
+    let number = refusal.number();
+    let text = format!(heap, "  refused: {layer} {number}\n")?;
     put_text(out, text.as_str())
 }
 
@@ -98,7 +98,7 @@ fn put_restricted<R: Automaton + Drop>(
     rule: R,
 ) -> Result<(), AllocError> {
     if let Err(refusal) = Product::check(&book, &rule) {
-        return put_refusal(out, heap, refusal);
+        return put_refusal(out, heap, Refusal::Pile(refusal));
     }
     let product = Product::new(book, rule);
     put_size(out, heap, "product", size_of(heap, &product)?)?;
@@ -109,7 +109,8 @@ fn put_restricted<R: Automaton + Drop>(
     let mut lines = vec![in heap; Line { state: 0, place: 0 }; merged.states()]?;
     match search(&merged, merged.root(), &mut lines) {
         Ok(0) => put_text(out, "  nothing is accepted from the root\n"),
-        _ => put_text(out, "  some tickets are accepted from the root\n"),
+        Ok(_) => put_text(out, "  some tickets are accepted from the root\n"),
+        Err(refusal) => put_refusal(out, heap, Refusal::Search(refusal)),
     }
 }
 
@@ -130,7 +131,7 @@ fn put_ladder(
     let text = format!(heap, "ladder of {count}\n")?;
     put_text(out, text.as_str())?;
     if let Err(refusal) = Ladder::check(&forms, count, levels) {
-        return put_refusal(out, heap, refusal);
+        return put_refusal(out, heap, Refusal::Pile(refusal));
     }
     put_restricted(out, heap, sealed.book(), Ladder::new(forms, count, levels))
 }
@@ -150,7 +151,7 @@ fn put_bar(
     )?;
     put_text(out, text.as_str())?;
     if let Err(refusal) = Bar::check(&forms, outer, position as usize, inner) {
-        return put_refusal(out, heap, refusal);
+        return put_refusal(out, heap, Refusal::Pile(refusal));
     }
     put_restricted(
         out,
