@@ -1,5 +1,7 @@
 // Tree automata over order tickets: rows, the automaton and measure interfaces, measures and worth.
 
+#![tactic(auto)]
+
 pub mod automaton;
 pub mod fewest_points;
 pub mod measure;

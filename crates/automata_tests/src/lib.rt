@@ -1,5 +1,7 @@
 // Tests of forms, tickets, refusals, ladder and bar.
 
+#![tactic(auto)]
+
 #[cfg(test)]
 mod tests {
     use automata::automaton::Automaton;

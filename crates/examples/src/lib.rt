@@ -1,4 +1,7 @@
 // Examples that are proved from the definitions.
+
+#![tactic(auto)]
+
 ghost use Rattle.std.specs.Prelude.{◌≡◌};
 ghost use Rattle.examples.specs.Examples.{Examples};
 

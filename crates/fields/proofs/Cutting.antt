@@ -2,7 +2,7 @@
 use Rattle.std.proofs.Common.{◌≡◌, ℕ, ◌+◌, ◌<◌, Bool, true, false, cond, not, eqb, List, [], ◌∷◌, ◌++◌, length, is_some, Some, None, Option, sym, refl, ap, ◌∙◌, subst, arith, Bor, eq-eqb, ne_eqb, eqb-true}
 use borrow.Author.Tests.{eqb-false}
 use Rattle.std.specs.List.{AllByRecursion as All}
-use Rattle.std.proofs.lemmas.Bool.{not_true, not_false}
+use Rattle.std.proofs.lemmas.Bool.{not-true, not-false}
 use Rattle.fields.specs.Parts.{grow, lines, fields, before, after, seen, left, ended, closed, tabbed, Lacks, Parted, AllParted}
 use Rattle.fields.specs.Tokens.{classed, first, others}
 use Rattle.fields.specs.Words.{number_of}
@@ -122,5 +122,5 @@ pub count_other : (b : ℕ) (bs : List ℕ) → (b ≡ 9 → ⊥) → length (fi
 count_other b bs n = ap (λ t. length (cond t ([] ∷ fields bs) (grow b (fields bs)))) (ne_eqb b 9 n) ∙ ap (λ l. length (grow b l)) (fields_cut bs) ∙ sym (ap length (fields_cut bs))
 
 pub none_left : (rest : Option (Bor (List ℕ))) (b : Bool) → is_some rest ≡ not b → b ≡ eqb (length (left (seen rest))) 0
-none_left None b e = not_false b (sym e)
-none_left (Some x) b e = not_true b (sym e) ∙ sym (ne_eqb (length (fields x.now)) 0 (let e = ap length (fields_cut x.now) in omega arith))
+none_left None b e = not-false b (sym e)
+none_left (Some x) b e = not-true b (sym e) ∙ sym (ne_eqb (length (fields x.now)) 0 (let e = ap length (fields_cut x.now) in omega arith))

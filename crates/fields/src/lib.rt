@@ -1,5 +1,7 @@
 // Lines and fields of a sheet, names and numbers, the lexer, and faults.
 
+#![tactic(auto)]
+
 pub mod cuts;
 pub mod fault;
 pub mod lexer;

@@ -1,5 +1,7 @@
 // The answer to a sheet: the listing of the house grammar as it is entered, or the fault that stops it.
 
+#![tactic(auto)]
+
 pub mod answer;
 pub mod house;
 mod report;

@@ -1,5 +1,7 @@
 // Tests of the layers over small automata.
 
+#![tactic(auto)]
+
 pub mod samples;
 #[cfg(test)]
 mod tests;

@@ -1,5 +1,7 @@
 // Merge: a layer over a tree automaton that joins states which stand for one another.
 
+#![tactic(auto)]
+
 mod key_order;
 pub mod merge;
 mod refine;

@@ -1,4 +1,6 @@
 // The product of two tree automata, again an automaton.
 
+#![tactic(auto)]
+
 pub mod product;
 pub mod sizes;

@@ -1,4 +1,6 @@
 // Sentences for a person: what each refusal means.
 
+#![tactic(auto)]
+
 pub mod reason;
 pub mod sentence;

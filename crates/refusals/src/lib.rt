@@ -1,3 +1,5 @@
 // Why a call is refused.
 
+#![tactic(auto)]
+
 pub mod refusal;

@@ -1,5 +1,7 @@
 // The register: entries over lent rows, what it holds by its history of calls, and the book over it.
 
+#![tactic(auto)]
+
 pub mod book;
 pub mod entries;
 pub mod open;

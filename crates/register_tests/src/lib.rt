@@ -1,5 +1,7 @@
 // Tests of the register: its limits, its refusals, strikes, and going on after it is reopened.
 
+#![tactic(auto)]
+
 #[cfg(test)]
 mod tests {
     use automata::measure::Measure;

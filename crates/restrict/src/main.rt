@@ -1,5 +1,8 @@
 // The program: reads a rule sheet from standard input, and writes the listing of the house grammar or the fault that
 // stopped it.
+
+#![tactic(auto)]
+
 use anyhow::anyhow;
 use automata::row::Row;
 use fields::fault::{Fault, Stop};

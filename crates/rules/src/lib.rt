@@ -1,5 +1,7 @@
 // Restrictions as automata made from a list of forms: ladder and bar.
 
+#![tactic(auto)]
+
 pub mod bar;
 pub mod barring;
 pub mod climbing;

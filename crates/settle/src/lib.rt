@@ -1,5 +1,7 @@
 // Settle: writing a pile into an open register.
 
+#![tactic(auto)]
+
 mod checking;
 mod numbering;
 mod reaching;

@@ -1,5 +1,7 @@
 // Forms, tickets and their check.
 
+#![tactic(auto)]
+
 pub mod checked;
 pub mod form_list;
 pub mod forms;

@@ -1,3 +1,5 @@
 // The lines of tickets: what the book over a sealed register reads of them.
 
+#![tactic(auto)]
+
 pub mod tickets;

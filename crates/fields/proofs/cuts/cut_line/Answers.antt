@@ -9,11 +9,11 @@ returns-then-is-empty c = nil_from_length c.args.rest.now (eqb-true _ 0 (sym c.i
 
 pub returns-in-Some : goal.returns-in-Some
 returns-in-Some c =
-    let ne = eqb-false (length c.args.rest.now) 0 (sym c.if-is-empty.ensures) in
+    let ne = eqb-false (length c.args.rest.now) 0 (sym c.if-is_empty.ensures) in
     line_some _ _ c.cut.result.1 c.in-Some.more (omega arith) c.cut.ensures.front c.cut.ensures.back c.in-Some.is
 
 pub returns-in-None : goal.returns-in-None
 returns-in-None c =
-    let ne = eqb-false (length c.args.rest.now) 0 (sym c.if-is-empty.ensures) in
+    let ne = eqb-false (length c.args.rest.now) 0 (sym c.if-is_empty.ensures) in
     let some : 0 < length c.args.rest.now = omega arith in
     (line_none _ _ c.cut.result.1 some c.cut.ensures.front c.cut.ensures.back c.in-None.is, some)

@@ -7,7 +7,7 @@ pub returns-then-not-is-sign : goal.returns-then-not-is-sign
 returns-then-not-is-sign c = sym (c.loop-b.invariant ∙ all_stop sign _ _ c.loop-b-test.true (sym c.if-not-is-sign.ensures))
 
 pub loop-b-preserved : goal.loop-b-preserved
-loop-b-preserved c = c.loop-b.invariant ∙ all_more sign _ _ c.loop-b-test.true (sym c.if-not-is-sign.ensures)
+loop-b-preserved c = c.loop-b.invariant ∙ all_more sign _ _ c.loop-b-test.true (sym c.if-not-is_sign.ensures)
 
 pub returns : goal.returns
 returns c = sym (c.loop-b.invariant ∙ all_end sign _ _ c.loop-b-test.false)

@@ -7,7 +7,7 @@ pub returns-then-not-may-stand : goal.returns-then-not-may-stand
 returns-then-not-may-stand c = sym (c.loop-b.invariant ∙ all_stop plain _ _ c.loop-b-test.true (sym c.if-not-may-stand.ensures))
 
 pub loop-b-preserved : goal.loop-b-preserved
-loop-b-preserved c = c.loop-b.invariant ∙ all_more plain _ _ c.loop-b-test.true (sym c.if-not-may-stand.ensures)
+loop-b-preserved c = c.loop-b.invariant ∙ all_more plain _ _ c.loop-b-test.true (sym c.if-not-may_stand.ensures)
 
 pub returns : goal.returns
 returns c = sym (c.loop-b.invariant ∙ all_end plain _ _ c.loop-b-test.false)
