@@ -12,8 +12,8 @@ bounds-arities-form g c = (stage_node c.args.arities.now c.args.nodes.now c.loop
 pub loop-place-init : goal.loop-place-init
 loop-place-init g c = (((passed c.args.arities.now c.args.nodes.now c.requires.whole).2, refl, tt, omega arith, refl), (λ q l. absurd (omega arith)), λ i l. refl)
 
-pub fill-line-requires : goal.fill-line-requires
-fill-line-requires g c =
+pub fill_line-requires : goal.fill_line-requires
+fill_line-requires g c =
     let a = c.args.arities.now in
     let ns = c.args.nodes.now in
     let p = c.loop-place.place in
@@ -38,16 +38,16 @@ loop-place-preserved g c =
     let p = c.loop-place.place in
     let d = c.loop-place.trees in
     let inv = c.loop-place.invariant in
-    let ys = c.fill-line.new.scratch in
+    let ys = c.fill_line.new.scratch in
     let l : p < length ns = c.loop-place-test.true in
     let few : length ns ≤ 256 = (passed a ns c.requires.whole).1 in
     let T = forest a Rattle.tickets.specs.Ticket.nil (take p ns) in
     let s = stage_spots a ns p d c.loop-place.roots l inv.0 in
     let held = spots_lines a ns o m c.loop-place.scratch p inv.1 (take (d - taken a ns p d) (drop (taken a ns p d) c.loop-place.roots)) (rest (taken a ns p d) T) s in
-    let here : Line o m ys p (prefix_tree a ns p) = subst (λ (t : Ticket). Line o m ys p t) (sym (prefix_tree_at a ns p d l inv.0.1)) (c.fill-line.ensures.fills (rest (taken a ns p d) T) held) in (
+    let here : Line o m ys p (prefix_tree a ns p) = subst (λ (t : Ticket). Line o m ys p t) (sym (prefix_tree_at a ns p d l inv.0.1)) (c.fill_line.ensures.fills (rest (taken a ns p d) T) held) in (
       stage_more a ns p d c.loop-place.roots l few inv.0,
-      lines_more a ns o m c.loop-place.scratch ys p inv.1 c.fill-line.ensures.before here,
-      λ i h. c.fill-line.ensures.after i h ∙ inv.2 i (omega (arith, line_end p m.states)),
+      lines_more a ns o m c.loop-place.scratch ys p inv.1 c.fill_line.ensures.before here,
+      λ i h. c.fill_line.ensures.after i h ∙ inv.2 i (omega (arith, line_end p m.states)),
     )
 
 pub returns : goal.returns
@@ -58,5 +58,5 @@ returns g c =
     let f : c.loop-place.place * n ≡ length ns * n = ap (λ x. x * n) e in
     record { fills = λ p l. c.loop-place.invariant.1 p (omega arith); keeps = λ i l. c.loop-place.invariant.2 i (omega arith) }
 
-pub overflow-sub-first : goal.overflow-sub-first
-overflow-sub-first g c = (stage_node c.args.arities.now c.args.nodes.now c.loop-place.place c.loop-place.trees c.loop-place.roots c.loop-place-test.true c.loop-place.invariant.0).1
+pub overflow_sub-first : goal.overflow_sub-first
+overflow_sub-first g c = (stage_node c.args.arities.now c.args.nodes.now c.loop-place.place c.loop-place.trees c.loop-place.roots c.loop-place-test.true c.loop-place.invariant.0).1

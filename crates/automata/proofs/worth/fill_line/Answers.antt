@@ -2,8 +2,8 @@ use Rattle.std.proofs.Common.{◌≡◌, ℕ, ◌+◌, ◌*◌, ◌<◌, ◌≤�
 use Rattle.automata.proofs.Cells.{filled_more, line_end}
 use Rattle.automata.proofs.worth.fill_line.Goals as goal
 
-pub node-worth-requires : goal.node-worth-requires
-node-worth-requires g c =
+pub node_worth-requires : goal.node_worth-requires
+node_worth-requires g c =
     let n = (g.A.Automaton.meaning c.args.automaton.now).states in
     λ i l. let h : get_or c.args.places.now i 0 + 1 ≤ c.args.place + 1 = omega (arith, c.requires.earlier i l) in omega (arith, mul-le-mul_right n h, c.requires.room, c.loop-state.auto.scratch)
 
@@ -13,8 +13,8 @@ loop-state-preserved g c =
     let n = c.states-states.result in
     let e : c.args.place * n ≡ c.args.place * m.states = ap (λ x. c.args.place * x) c.states-states.ensures in
     let h : c.args.place * n + c.loop-state.state < length c.loop-state.scratch = omega (arith, line_end c.args.place m.states, c.requires.room, c.loop-state.auto.scratch, c.states-states.ensures) in
-    filled_more g.met.M.Measure.lawful m (g.A.Automaton.sound c.args.automaton.now).closed c.args.scratch.now c.args.places.now c.args.form c.args.place (c.args.place * n) c.loop-state.scratch c.loop-state.state c.node-worth.result
-    e h c.requires.earlier c.node-worth.ensures c.loop-state.invariant
+    filled_more g.met.M.Measure.lawful m (g.A.Automaton.sound c.args.automaton.now).closed c.args.scratch.now c.args.places.now c.args.form c.args.place (c.args.place * n) c.loop-state.scratch c.loop-state.state c.node_worth.result
+    e h c.requires.earlier c.node_worth.ensures c.loop-state.invariant
 
 pub returns : goal.returns
 returns g c =

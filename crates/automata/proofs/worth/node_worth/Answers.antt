@@ -5,10 +5,10 @@ use Rattle.automata.specs.Worth.{sum}
 use Rattle.automata.specs.Table.{Within, cells_row}
 use Rattle.automata.proofs.Cells.{node_some, node_none}
 use Rattle.automata.proofs.worth.node_worth.Goals as goal
-use Rattle.automata.proofs.worth.node_worth.Goals.{in-Some, in-default}
+use Rattle.automata.proofs.worth.node_worth.Goals.{in-Some, in_default}
 
-pub row-worth-requires : goal.row-worth-requires
-row-worth-requires g c =
+pub row_worth-requires : goal.row_worth-requires
+row_worth-requires g c =
     let m = g.A.Automaton.meaning c.args.automaton.now in
     let s = g.A.Automaton.sound c.args.automaton.now in
     let n = c.states-states.result in
@@ -26,7 +26,7 @@ loop-place-preserved g c =
     let l = g.met.M.Measure.lawful in
     elim c.match-row.branch [
       | in-Some w ↦ (node_some l m c.args.scratch.now c.args.places.now c.args.form c.args.state c.loop-place.place c.states-states.result (production w.in-Some.row) c.loop-place.sum c.match-row.sum w.row_worth.result c.loop-place.invariant.0 w.in-Some.ensures c.states-states.ensures w.row_worth.ensures (w.sum-is ∙ w.plus-sum.ensures), c.loop-place.invariant.1)
-      | in-default w ↦ (node_none l m c.args.scratch.now c.args.places.now c.args.form c.args.state c.loop-place.place c.loop-place.sum c.match-row.sum c.loop-place.invariant.0 w.in-default.ensures w.sum-is, c.loop-place.invariant.1)
+      | in_default w ↦ (node_none l m c.args.scratch.now c.args.places.now c.args.form c.args.state c.loop-place.place c.loop-place.sum c.match-row.sum c.loop-place.invariant.0 w.in_default.ensures w.sum-is, c.loop-place.invariant.1)
     ]
 
 pub returns : goal.returns

@@ -4,8 +4,8 @@ use Rattle.std.proofs.lemmas.Bool.{eqb-true, eqb-false}
 use Rattle.fields.proofs.Cutting.{line_some, line_none}
 use Rattle.fields.proofs.cuts.cut_line.Goals as goal
 
-pub returns-then-is-empty : goal.returns-then-is-empty
-returns-then-is-empty c = nil_from_length c.args.rest.now (eqb-true _ 0 (sym c.if-is-empty.ensures))
+pub returns-then-is_empty : goal.returns-then-is_empty
+returns-then-is_empty c = nil_from_length c.args.rest.now (eqb-true _ 0 (sym c.if-is_empty.ensures))
 
 pub returns-in-Some : goal.returns-in-Some
 returns-in-Some c =

@@ -8,7 +8,7 @@ pub loop-lexer-preserved : goal.loop-lexer-preserved
 loop-lexer-preserved c =
     let fs = to_read c.loop-lexer.lexer in
     let some : 0 < length fs = some_left fs (sym c.is_done.ensures ∙ c.loop-lexer-test.true) in
-    c.loop-lexer.invariant ∙ places_more (map vec_items c.args.names.now) c.args.line _ fs _ _ c.in_ok-place.place _ _ some (sym c.in_ok-name.ensures.value) (sym c.in_ok-place.ensures) c.name.ensures.after c.in-ok-push.ensures.items
+    c.loop-lexer.invariant ∙ places_more (map vec_items c.args.names.now) c.args.line _ fs _ _ c.in_ok-place.place _ _ some (sym c.in_ok-name.ensures.value) (sym c.in_ok-place.ensures) c.name.ensures.after c.in_ok-push.ensures.items
 
 pub returns : goal.returns
 returns c =

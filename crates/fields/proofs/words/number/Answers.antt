@@ -3,8 +3,8 @@ use Rattle.fields.proofs.Walking.{onward_more, onward_over, onward_letter, onwar
 use Rattle.fields.proofs.words.number.Goals as goal
 use Rattle.fields.proofs.words.number.Goals.{else-field-gt1-via-then-field-gt1+else-field-eq48, else-field-gt1-via-else-field-gt1}
 
-pub returns-then-not-is-ascii-digit : goal.returns-then-not-is-ascii-digit
-returns-then-not-is-ascii-digit c = sym (c.loop-b.invariant.1 ∙ onward_letter _ _ _ c.loop-b-test.true (sym c.if-not-is-ascii-digit.ensures.value))
+pub returns-then-not-is_ascii_digit : goal.returns-then-not-is_ascii_digit
+returns-then-not-is_ascii_digit c = sym (c.loop-b.invariant.1 ∙ onward_letter _ _ _ c.loop-b-test.true (sym c.if-not-is_ascii_digit.ensures.value))
 
 pub returns-then-n-gt65535 : goal.returns-then-n-gt65535
 returns-then-n-gt65535 c = sym (c.loop-b.invariant.1 ∙ onward_over _ _ _ c.loop-b-test.true (sym c.if-not-is_ascii_digit.ensures.value) c.if-n-gt65535.true)

@@ -4,8 +4,8 @@ use Rattle.fields.specs.Tokens.{first, others}
 use Rattle.fields.proofs.Cutting.{lexed}
 use Rattle.fields.proofs.lexer.Lexer.next.Goals as goal
 
-pub returns-in-default : goal.returns-in-default
-returns-in-default c = record { value = sym (ap (λ o. first (left (seen o))) c.in-default.is); after = ap (λ o. left (seen o)) c.in-default.is ∙ sym (ap (λ o. others (left (seen o))) c.in-default.is) }
+pub returns-in_default : goal.returns-in_default
+returns-in_default c = record { value = sym (ap (λ o. first (left (seen o))) c.in_default.is); after = ap (λ o. left (seen o)) c.in_default.is ∙ sym (ap (λ o. others (left (seen o))) c.in_default.is) }
 
 pub returns-in-Some-number : goal.returns-in-Some-number
 returns-in-Some-number c =
