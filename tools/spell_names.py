@@ -17,6 +17,8 @@ DEFINITION = re.compile(
 TEXT = re.compile(r'"(?:[^"\\]|\\.)*"')
 # where the plain spelling is the name of a function in a file that cites the definition
 APART = {"all-at-most": "each_at_most", "all-marked": "each_marked", "node-field": "field_of_node"}
+# what a file takes from the library keeps its spelling in that file
+LENT = re.compile(r"^use (?:Rattle\.std|mathlib)[\w.]*\.\{(.*)\}", re.M)
 MADE = re.compile(r"(?:^|[^\w'])(?:c|l|goal|given)\.$")
 
 
@@ -66,6 +68,8 @@ def spell_line(line, names, own):
 
 def spell(text, names, path):
     own = of_function(path)
+    lent = {n.strip() for line in LENT.findall(text) for n in line.split(",")}
+    names = {n: p for n, p in names.items() if n not in lent}
     comment = re.compile(r"(^|\s)--\s") if path.endswith(".antt") else re.compile(r"//")
     lines = []
     for line in text.split("\n"):

@@ -1,6 +1,6 @@
 -- What ladder and bar accept.
 use Rattle.std.proofs.Common.{◌≡◌, ℕ, ◌-◌, ◌<◌, ◌≤◌, Bool, true, false, cond, not, ◌&&◌, ◌||◌, eqb, ltb, ◌⊎◌, List, get_or, sym, refl, ap, ◌∙◌, inl, inr, ⊎_elim, arith}
-use Rattle.std.proofs.lemmas.Bool.{ltb-true, lt-ltb, eqb-true, eq-eqb, or_cases, or_left, or_right, and_parts, and_from, cond-true, cases_lt, cases_eq, cases_Bool, both_ways, not_true, not_from_false}
+use Rattle.std.proofs.lemmas.Bool.{ltb-true, lt-ltb, eqb-true, eq-eqb, or_cases, or_left, or_right, and_parts, and_from, cond-true, cases_lt, cases_eq, cases_Bool, both_ways, not-true, not_from_false}
 use Rattle.rules.specs.Ruled.{top_form}
 use Rattle.rules.specs.Ladder.{level, ladder, ladder_has, ladder_to, Falls, LadderExact}
 use Rattle.rules.specs.Bar.{bar, bar_has, bar_to, BarExact}
@@ -27,7 +27,7 @@ to_one outer position f i e e' = cond-true _ _ _ (and_from (eqb f outer) (eqb i 
 has_not_inner : (inner s g : ℕ) → s ≡ 1 → bar_has inner s g ≡ true → g ≡ inner → ⊥
 has_not_inner inner s g e h same =
     let at : bar_has inner 1 g ≡ true = ap (λ x. bar_has inner x g) (sym e) ∙ h in
-    both_ways (eqb g inner) (not_true (eqb g inner) at) (eq-eqb g inner same)
+    both_ways (eqb g inner) (not-true (eqb g inner) at) (eq-eqb g inner same)
 
 child_has : (outer position inner f i g : ℕ) → (f ≡ outer → i ≡ position → g ≡ inner → ⊥) → bar_has inner (bar_to outer position f i) g ≡ true
 child_has outer position inner f i g free = go (eqb f outer && eqb i position) refl (eqb g inner) refl

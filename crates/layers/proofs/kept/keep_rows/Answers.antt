@@ -7,7 +7,7 @@ use Rattle.layers.specs.Growth.{Grows}
 use Rattle.automata.specs.Reading.{Member}
 use Rattle.layers.proofs.Growing.{Leading, leading_none, leading_skip, leading_row, grows_then, grows_still, row_member, row_closed}
 use Rattle.layers.proofs.kept.keep_rows.Goals as goal
-use Rattle.layers.proofs.kept.keep_rows.Goals.{then-all-marked+then-keep-children, else-all-marked, else-all-marked-via-then-all-marked+else-keep-children, else-all-marked-via-else-all-marked}
+use Rattle.layers.proofs.kept.keep_rows.Goals.{then-all_marked+then-keep_children, else-all_marked, else-all_marked-via-then-all_marked+else-keep_children, else-all_marked-via-else-all_marked}
 
 abbrev blank : Row
 blank = record { form = 0; points = 0; arity = 0; children = [] }
@@ -15,8 +15,8 @@ blank = record { form = 0; points = 0; arity = 0; children = [] }
 pub loop-row-init : goal.loop-row-init
 loop-row-init c = leading_none (mark c.args.productive.now) c.args.marks.now (map production c.args.rows.now)
 
-pub keep-children-requires : goal.keep-children-requires
-keep-children-requires c =
+pub keep_children-requires : goal.keep_children-requires
+keep_children-requires c =
     subst (λ n. all_below n (production (get_or c.args.rows.now c.loop-row.row-index blank)).children ≡ true) (sym c.loop-row.auto.marks)
     (row_closed (mark c.args.productive.now) c.args.rows.now c.loop-row.row-index blank c.loop-row-test.true (λ p. all_below (length c.args.marks.now) p.children ≡ true) c.requires)
 
@@ -30,23 +30,23 @@ loop-row-preserved c =
     let all = map production rs in
     let old = c.args.marks.now in
     let new = c.loop-row.marks in
-    let new' = c.if-all-marked.marks in
-    subst (λ (z : List Production). Leading f old new' c.if-all-marked.added z all) (sym (map_more production rs i blank c.loop-row-test.true))
-    (elim c.if-all-marked.branch [
-      | then-all-marked+then-keep-children w ↦
-          let gr : Grows new new' true = subst (Grows new new') w.if-keep-children.true (subst (λ z. Grows new z w.keep-children.result) (sym w.marks-is) w.keep-children.ensures.grows) in
-          leading_row f old new new' c.loop-row.added c.if-all-marked.added ps all p c.loop-row.invariant true (row_member f rs i blank c.loop-row-test.true) (sym c.all-marked.ensures ∙ w.if-all-marked.true) gr
-          (subst (λ z. each_marked (mark z) p.children ≡ true) (sym w.marks-is) w.keep-children.ensures.all)
-          (λ s e. w.keep-children.ensures.from s (ap (λ z. mark z s) (sym w.marks-is) ∙ e))
+    let new' = c.if-all_marked.marks in
+    subst (λ (z : List Production). Leading f old new' c.if-all_marked.added z all) (sym (map_more production rs i blank c.loop-row-test.true))
+    (elim c.if-all_marked.branch [
+      | then-all_marked+then-keep_children w ↦
+          let gr : Grows new new' true = subst (Grows new new') w.if-keep_children.true (subst (λ z. Grows new z w.keep_children.result) (sym w.marks-is) w.keep_children.ensures.grows) in
+          leading_row f old new new' c.loop-row.added c.if-all_marked.added ps all p c.loop-row.invariant true (row_member f rs i blank c.loop-row-test.true) (sym c.all_marked.ensures ∙ w.if-all_marked.true) gr
+          (subst (λ z. each_marked (mark z) p.children ≡ true) (sym w.marks-is) w.keep_children.ensures.all)
+          (λ s e. w.keep_children.ensures.from s (ap (λ z. mark z s) (sym w.marks-is) ∙ e))
           (subst (Grows old new') (sym w.added-is) (grows_then old new new' c.loop-row.added c.loop-row.invariant.grows gr))
-      | else-all-marked w ↦ elim w.else-all-marked.branch [
-        | else-all-marked-via-then-all-marked+else-keep-children w' ↦
-            let gr : Grows new new' false = subst (Grows new new') w'.if-keep-children.false (subst (λ z. Grows new z w'.keep-children.result) (sym (w.marks-is ∙ w'.marks-is)) w'.keep-children.ensures.grows) in
-            leading_row f old new new' c.loop-row.added c.if-all-marked.added ps all p c.loop-row.invariant false (row_member f rs i blank c.loop-row-test.true) (sym c.all-marked.ensures ∙ w'.if-all-marked.true) gr
-            (subst (λ z. each_marked (mark z) p.children ≡ true) (sym (w.marks-is ∙ w'.marks-is)) w'.keep-children.ensures.all)
-            (λ s e. w'.keep-children.ensures.from s (ap (λ z. mark z s) (sym (w.marks-is ∙ w'.marks-is)) ∙ e))
+      | else-all_marked w ↦ elim w.else-all_marked.branch [
+        | else-all_marked-via-then-all_marked+else-keep_children w' ↦
+            let gr : Grows new new' false = subst (Grows new new') w'.if-keep_children.false (subst (λ z. Grows new z w'.keep_children.result) (sym (w.marks-is ∙ w'.marks-is)) w'.keep_children.ensures.grows) in
+            leading_row f old new new' c.loop-row.added c.if-all_marked.added ps all p c.loop-row.invariant false (row_member f rs i blank c.loop-row-test.true) (sym c.all_marked.ensures ∙ w'.if-all_marked.true) gr
+            (subst (λ z. each_marked (mark z) p.children ≡ true) (sym (w.marks-is ∙ w'.marks-is)) w'.keep_children.ensures.all)
+            (λ s e. w'.keep_children.ensures.from s (ap (λ z. mark z s) (sym (w.marks-is ∙ w'.marks-is)) ∙ e))
             (subst (Grows old new') (sym w.added-is) (grows_still old new new' c.loop-row.added c.loop-row.invariant.grows gr))
-        | else-all-marked-via-else-all-marked w' ↦ leading_skip f old new new' c.loop-row.added c.if-all-marked.added ps all p c.loop-row.invariant (w.marks-is ∙ w'.marks-is) w.added-is (sym c.all-marked.ensures ∙ w'.if-all-marked.false)
+        | else-all_marked-via-else-all_marked w' ↦ leading_skip f old new new' c.loop-row.added c.if-all_marked.added ps all p c.loop-row.invariant (w.marks-is ∙ w'.marks-is) w.added-is (sym c.all_marked.ensures ∙ w'.if-all_marked.false)
       ]
     ])
 

@@ -10,7 +10,7 @@ pub loop-marks-init : goal.loop-marks-init
 loop-marks-init g c = (λ s e. absurd (both_ways _ (none_marked s) e), length-replicate 1024 false)
 
 pub loop-marks-smaller : goal.loop-marks-smaller
-loop-marks-smaller g c = grows_less c.loop-marks.marks c.mark-round.new.marks c.mark-round.result 1024 c.loop-marks.invariant.1 c.mark-round.ensures.grows c.if-not-mark-round.false
+loop-marks-smaller g c = grows_less c.loop-marks.marks c.mark_round.new.marks c.mark_round.result 1024 c.loop-marks.invariant.1 c.mark_round.ensures.grows c.if-not-mark_round.false
 
-pub returns-then-not-mark-round : goal.returns-then-not-mark-round
-returns-then-not-mark-round g c = productive_decided (g.A.Automaton.meaning c.args.below.now) (g.A.Automaton.sound c.args.below.now) c.mark-round.new.marks c.mark-round.ensures.right (c.mark-round.ensures.stuck c.if-not-mark-round.true)
+pub returns-then-not-mark_round : goal.returns-then-not-mark_round
+returns-then-not-mark_round g c = productive_decided (g.A.Automaton.meaning c.args.below.now) (g.A.Automaton.sound c.args.below.now) c.mark_round.new.marks c.mark_round.ensures.right (c.mark_round.ensures.stuck c.if-not-mark_round.true)

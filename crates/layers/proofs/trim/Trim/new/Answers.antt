@@ -10,9 +10,9 @@ use Rattle.layers.proofs.trim.Trim.new.Goals as goal
 pub returns : goal.returns
 returns g c =
     let m = g.A.Automaton.meaning c.args.below in
-    let km = c.in-ok-kept.ensures.items-if-clones-equal (λ x y e. e) in
-    let pm = c.in-ok-marks.ensures.items-if-clones-equal (λ x y e. e) in
+    let km = c.in_ok-kept.ensures.items_if_clones_equal (λ x y e. e) in
+    let pm = c.in_ok-marks.ensures.items_if_clones_equal (λ x y e. e) in
     record {
-      meaning = pruned_trimmed m (mark (vec_items c.in-ok-kept.kept)) (mark (vec_items c.in-ok-marks.marks))
+      meaning = pruned_trimmed m (mark (vec_items c.in_ok-kept.kept)) (mark (vec_items c.in_ok-marks.marks))
           (subst (λ (z : List Bool). (s : ℕ) → Decides (mark z s) (Kept m s)) (sym km) c.kept-reached.ensures) (subst (λ (z : List Bool). (s : ℕ) → Decides (mark z s) (Productive m s)) (sym pm) c.productive-usable.ensures);
     }

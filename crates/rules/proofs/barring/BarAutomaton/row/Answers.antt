@@ -19,6 +19,6 @@ returns c =
       | else-state-eq1-via-else-state-eq1 w ↦ λ e f. w.if-state-eq1.false e
     ] in
     row_shown v.forms 2 (bar_has v.inner) (bar_to v.outer v.position) s k _ _
-    (arity_is v.forms k _ c.arity.result c.arity.ensures c.in-ok-arity.was inside)
+    (arity_is v.forms k _ c.arity.result c.arity.ensures c.in_ok-arity.was inside)
     (ap₂ more c.aim.ensures (ap₂ more c.aim-2.ensures (ap₂ more c.aim-3.ensures (ap (λ (x : ℕ). more x []) c.aim-4.ensures))))
     c.if-state-ge2.false inside (bar_state_has v.inner s k c.if-state-ge2.false free)

@@ -18,5 +18,5 @@ returns c =
       | else-level-gt0-via-else-level-gt0 w ↦ λ h. let z = w.if-level-gt0.false in omega arith
     ] in
     row_shown v.forms v.count (ladder_has v.levels.now) (ladder_to v.levels.now) s k _ _
-    (arity_is v.forms k _ c.arity.result c.arity.ensures c.in-ok-arity.was inside)
-    (ap (λ (x : ℕ). x ∷ x ∷ x ∷ x ∷ []) c.saturating-sub-child.ensures) c.if-state-self.false inside (level_has l s high)
+    (arity_is v.forms k _ c.arity.result c.arity.ensures c.in_ok-arity.was inside)
+    (ap (λ (x : ℕ). x ∷ x ∷ x ∷ x ∷ []) c.saturating_sub-child.ensures) c.if-state-self.false inside (level_has l s high)
