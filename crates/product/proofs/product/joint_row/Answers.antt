@@ -12,4 +12,4 @@ loop-i-preserved c = (
 )
 
 pub returns : goal.returns
-returns c = joint_some c.args.sizes.width c.args.sizes.states c.args.first c.args.second c.requires c.width-arity.result c.width-arity.ensures.value c.loop-i.children c.loop-i.i c.joint-points.result (omega (arith, c.loop-i.invariant.1)) c.loop-i-test.false c.joint-points.ensures c.loop-i.invariant.0
+returns c = joint_some c.args.sizes.width c.args.sizes.states c.args.first c.args.second c.requires c.width-arity.result c.width-arity.ensures.value c.loop-i.children c.loop-i.i c.joint_points.result (omega (arith, c.loop-i.invariant.1)) c.loop-i-test.false c.joint_points.ensures c.loop-i.invariant.0

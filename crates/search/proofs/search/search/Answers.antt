@@ -10,8 +10,8 @@ use Rattle.search.proofs.search.search.Goals as goal
 pub loop-place-init : goal.loop-place-init
 loop-place-init g c = (listed_none (g.A.Automaton.meaning c.args.automaton.now) c.args.start _, inl refl, refl)
 
-pub offset-bounds-order-count : goal.offset-bounds-order-count
-offset-bounds-order-count g c =
+pub offset_bounds-order-count : goal.offset_bounds-order-count
+offset_bounds-order-count g c =
     let b = count_below (g.A.Automaton.meaning c.args.automaton.now) (g.A.Automaton.sound c.args.automaton.now) c.args.start _ _ _ c.loop-place.invariant.0 (omega (arith, c.states-states.ensures)) in
     omega arith
 
@@ -20,18 +20,18 @@ bounds-order-count g c =
     let b = count_below (g.A.Automaton.meaning c.args.automaton.now) (g.A.Automaton.sound c.args.automaton.now) c.args.start _ _ _ c.loop-place.invariant.0 (omega (arith, c.states-states.ensures)) in
     omega arith
 
-pub overflow-add-count : goal.overflow-add-count
-overflow-add-count g c =
+pub overflow_add-count : goal.overflow_add-count
+overflow_add-count g c =
     let b = count_below (g.A.Automaton.meaning c.args.automaton.now) (g.A.Automaton.sound c.args.automaton.now) c.args.start _ _ _ c.loop-place.invariant.0 (omega (arith, c.states-states.ensures)) in
     omega arith
 
-pub overflow-add-result : goal.overflow-add-result
-overflow-add-result g c =
+pub overflow_add-result : goal.overflow_add-result
+overflow_add-result g c =
     let b = count_below (g.A.Automaton.meaning c.args.automaton.now) (g.A.Automaton.sound c.args.automaton.now) c.args.start _ _ _ c.loop-place.invariant.0 (omega (arith, c.states-states.ensures)) in
     omega arith
 
-pub copy-front-requires : goal.copy-front-requires
-copy-front-requires g c =
+pub copy_front-requires : goal.copy_front-requires
+copy_front-requires g c =
     let h = c.loop-place.invariant.0 in
     let b = count_below (g.A.Automaton.meaning c.args.automaton.now) (g.A.Automaton.sound c.args.automaton.now) c.args.start _ _ _ h (omega (arith, c.states-states.ensures)) in
     record {
@@ -45,14 +45,14 @@ returns-in-Some g c =
     let sm = g.A.Automaton.sound c.args.automaton.now in
     let h = c.loop-place.invariant.0 in
     let b = count_below m sm c.args.start _ _ _ h (omega (arith, c.states-states.ensures)) in
-    let found : Found m c.args.start (take _ c.copy-front.new.to) = subst (Found m c.args.start) (sym c.copy-front.ensures.front) (found_start m c.args.start c.loop-place.marks c.loop-place.order c.loop-place.count h c.in-Some.place _ (omega (arith, h.long_lines, b.0, b.1)) refl refl c.in-Some.ensures) in
+    let found : Found m c.args.start (take _ c.copy_front.new.to) = subst (Found m c.args.start) (sym c.copy_front.ensures.front) (found_start m c.args.start c.loop-place.marks c.loop-place.order c.loop-place.count h c.in-Some.place _ (omega (arith, h.long_lines, b.0, b.1)) refl refl c.in-Some.ensures) in
     record {
       refused = checked_ok m c.args.start (length c.args.lines.now) (omega (arith, c.states-states.ensures)) (omega (arith, c.states-states.ensures));
       answers = omega (arith, b.0, c.states-states.ensures);
       searched = (λ _. found, λ z. absurd (omega arith));
       tells = found_tells m sm c.args.start _ _ (omega arith) found;
       leaf = λ leaf. ⊎_elim (λ (e : c.loop-place.count ≡ 0). omega arith) (λ no-leaf. absurd (no-leaf leaf)) c.loop-place.invariant.1;
-      beyond = c.copy-front.ensures.beyond ∙ ap (drop _) c.loop-place.invariant.2;
+      beyond = c.copy_front.ensures.beyond ∙ ap (drop _) c.loop-place.invariant.2;
       same = λ e. absurd (true≢false e);
     }
 
@@ -66,7 +66,7 @@ returns-then-listed-count g c =
       answers = omega arith;
       searched = (λ l. absurd (omega arith), λ _. (mark c.sweep-listed.new.marks, s.stuck c.if-listed-count.true, s.listed.open_start));
       tells = stuck_tells m sm c.args.start (mark c.sweep-listed.new.marks) (s.stuck c.if-listed-count.true) s.listed.open_start;
-      leaf = λ leaf. absurd (leaf_ready m (mark c.loop-place.marks) c.args.start c.in-default.ensures leaf);
+      leaf = λ leaf. absurd (leaf_ready m (mark c.loop-place.marks) c.args.start c.in_default.ensures leaf);
       beyond = c.loop-place.invariant.2;
       same = λ e. absurd (true≢false e);
     }
@@ -78,4 +78,4 @@ loop-place-smaller g c =
     omega (arith, s.more, s.listed.counted, marked_le (mark c.sweep-listed.new.marks) m.states, c.if-listed-count.false)
 
 pub loop-place-preserved : goal.loop-place-preserved
-loop-place-preserved g c = (c.sweep-listed.ensures.listed, inr (leaf_ready (g.A.Automaton.meaning c.args.automaton.now) (mark c.loop-place.marks) c.args.start c.in-default.ensures), c.loop-place.invariant.2)
+loop-place-preserved g c = (c.sweep-listed.ensures.listed, inr (leaf_ready (g.A.Automaton.meaning c.args.automaton.now) (mark c.loop-place.marks) c.args.start c.in_default.ensures), c.loop-place.invariant.2)

@@ -33,8 +33,8 @@ returns-then-number-ge64 c =
     let d = refused_held rs t (add_form c.args.arity) FullForms a in
     record { answers = a; steps = d; history = follows (laid_out rs t false) _ (enter (add_form c.args.arity)) d; same = refl }
 
-pub invariant-of-self : goal.invariant-of-self
-invariant-of-self c =
+pub invariant_of-self : goal.invariant_of-self
+invariant_of-self c =
     let v = c.args.self.now in
     let rs = v.rows.now in
     let t = v.table in
@@ -42,7 +42,7 @@ invariant-of-self c =
     let e : Ok t.forms ≡ cond (ltb 4 c.args.arity) (Err HighArity) (cond (leb 64 t.forms) (Err FullForms) (Ok t.forms)) = grind (arith, nat_tests) in
     let a = e ∙ form_answer rs t c.args.arity h in
     let d = form_done rs t c.args.arity h c.if-number-ge64.false ∙ taken_held rs t (add_form c.args.arity) t.forms a in
-    (∣ form_sane rs t c.args.arity h c.if-number-ge64.false c.if-arity-gt4.false ∣₁, (∣ subst Good (sym d) (step_good (laid_out rs t false) (enter (add_form c.args.arity)) (good_from (laid_out rs t false) v.good)) ∣₁, tt))
+    record { sane = ∣ form_sane rs t c.args.arity h c.if-number-ge64.false c.if-arity-gt4.false ∣₁; good = ∣ subst Good (sym d) (step_good (laid_out rs t false) (enter (add_form c.args.arity)) (good_from (laid_out rs t false) v.good)) ∣₁ }
 
 pub returns : goal.returns
 returns c =

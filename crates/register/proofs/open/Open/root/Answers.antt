@@ -22,8 +22,8 @@ returns-then-state-self c =
     let d = refused_held rs t (name_root c.args.state) NoState a in
     record { answers = ap unnumbered a; steps = d; history = follows (laid_out rs t false) _ (enter (name_root c.args.state)) d; same = refl }
 
-pub invariant-of-self : goal.invariant-of-self
-invariant-of-self c =
+pub invariant_of-self : goal.invariant_of-self
+invariant_of-self c =
     let v = c.args.self.now in
     let rs = v.rows.now in
     let t = v.table in
@@ -31,7 +31,7 @@ invariant-of-self c =
     let e : Ok 0 ≡ cond (leb t.states c.args.state) (Err NoState) (Ok 0) = grind (arith, nat_tests) in
     let a = e ∙ root_answer rs t c.args.state h in
     let d = root_done rs t c.args.state ∙ taken_held rs t (name_root c.args.state) 0 a in
-    (tt, (∣ root_sane rs t c.args.state h ∣₁, (∣ subst Good (sym d) (step_good (laid_out rs t false) (enter (name_root c.args.state)) (good_from (laid_out rs t false) v.good)) ∣₁, tt)))
+    record { sane = ∣ root_sane rs t c.args.state h ∣₁; good = ∣ subst Good (sym d) (step_good (laid_out rs t false) (enter (name_root c.args.state)) (good_from (laid_out rs t false) v.good)) ∣₁ }
 
 pub returns : goal.returns
 returns c =

@@ -22,8 +22,8 @@ returns-then-number-ge64 c =
     let d = refused_held rs t add_state FullStates a in
     record { answers = a; steps = d; history = follows (laid_out rs t false) _ (enter add_state) d; same = refl }
 
-pub invariant-of-self : goal.invariant-of-self
-invariant-of-self c =
+pub invariant_of-self : goal.invariant_of-self
+invariant_of-self c =
     let v = c.args.self.now in
     let rs = v.rows.now in
     let t = v.table in
@@ -31,7 +31,7 @@ invariant-of-self c =
     let e : Ok t.states ≡ cond (leb 64 t.states) (Err FullStates) (Ok t.states) = grind (arith, nat_tests) in
     let a = e ∙ state_answer rs t h in
     let d = state_done rs t h c.if-number-ge64.false ∙ taken_held rs t add_state t.states a in
-    (∣ state_sane rs t h c.if-number-ge64.false ∣₁, (∣ subst Good (sym d) (step_good (laid_out rs t false) (enter add_state) (good_from (laid_out rs t false) v.good)) ∣₁, tt))
+    record { sane = ∣ state_sane rs t h c.if-number-ge64.false ∣₁; good = ∣ subst Good (sym d) (step_good (laid_out rs t false) (enter add_state) (good_from (laid_out rs t false) v.good)) ∣₁ }
 
 pub returns : goal.returns
 returns c =

@@ -8,17 +8,17 @@ use Rattle.register.proofs.reading.BookAutomaton.row.Goals.{else-state-self-via-
 pub bounds-self-state : goal.bounds-self-state
 bounds-self-state c = let v = c.args.self.now in omega (arith, (sane_from v.rows.now v.table v.sane).states)
 
-pub overflow-mul-result : goal.overflow-mul-result
-overflow-mul-result c = let v = c.args.self.now in omega (arith, (sane_from v.rows.now v.table v.sane).states)
+pub overflow_mul-result : goal.overflow_mul-result
+overflow_mul-result c = let v = c.args.self.now in omega (arith, (sane_from v.rows.now v.table v.sane).states)
 
-pub overflow-add-result : goal.overflow-add-result
-overflow-add-result c =
+pub overflow_add-result : goal.overflow_add-result
+overflow_add-result c =
     let v = c.args.self.now in
     let h = sane_from v.rows.now v.table v.sane in
     omega (arith, h.states, h.counts c.args.state (omega (arith, h.states, h.counts_long)))
 
-pub offset-bounds-self-state : goal.offset-bounds-self-state
-offset-bounds-self-state c =
+pub offset_bounds-self-state : goal.offset_bounds-self-state
+offset_bounds-self-state c =
     let v = c.args.self.now in
     let h = sane_from v.rows.now v.table v.sane in
     omega (arith, h.states, h.counts c.args.state (omega (arith, h.states, h.counts_long)))

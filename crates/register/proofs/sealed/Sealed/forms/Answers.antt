@@ -4,8 +4,8 @@ use Rattle.ledger.specs.Soundness.{good_from}
 use Rattle.ledger.proofs.SaneRows.{sane_from}
 use Rattle.register.proofs.sealed.Sealed.forms.Goals as goal
 
-pub shared-ref-as-front·arities : goal.shared-ref-as-front·arities
-shared-ref-as-front·arities c = let v = c.args.self.now in let h = sane_from v.rows.now v.table v.sane in omega (arith, h.forms, h.arities_long)
+pub shared_ref_as_front-arities : goal.shared_ref_as_front-arities
+shared_ref_as_front-arities c = let v = c.args.self.now in let h = sane_from v.rows.now v.table v.sane in omega (arith, h.forms, h.arities_long)
 
 pub new-requires : goal.new-requires
 unfolding laid_out

@@ -7,11 +7,11 @@ use Rattle.ledger.proofs.GoodLedgers.{step_good}
 use Rattle.register.proofs.Entering.{reopen_steps}
 use Rattle.register.proofs.sealed.Sealed.reopen.Goals as goal
 
-pub invariant-of-result : goal.invariant-of-result
-invariant-of-result c =
+pub invariant_of-result : goal.invariant_of-result
+invariant_of-result c =
     let v = c.args.self in
     let l = laid_out v.rows.now v.table true in
-    (v.sane, (∣ subst Good (sym (reopen_steps v.rows.now v.table)) (step_good l reopen (good_from l v.good)) ∣₁, tt))
+    record { sane = v.sane; good = ∣ subst Good (sym (reopen_steps v.rows.now v.table)) (step_good l reopen (good_from l v.good)) ∣₁ }
 
 pub returns : goal.returns
 returns c =
