@@ -1,7 +1,6 @@
 -- The keys of a list of rows, one by one, and their order.
 use Rattle.std.proofs.Common.{◌≡◌, ℕ, ◌+◌, ◌<◌, ◌≤◌, List, [], ◌∷◌, ◌++◌, map, length, get_or, take, Ordering, Less, Equal, Greater, sym, refl, ap, ◌∙◌, subst, ap₂, arith}
 use Rattle.std.specs.Ordering.{MatchOrdering, nat_cmp}
-use Rattle.std.specs.Cmp.{IsTotalOrder, nat_cmp_total}
 use Rattle.std.specs.List.Sorted.{IsNonDecreasingBy, IsPermutation}
 use Rattle.std.proofs.lemmas.List.{map_push, take_more, take_more_same, take_all, get_or-map, length-map}
 use Rattle.std.proofs.lemmas.Cmp.{by_ranked}
@@ -42,16 +41,6 @@ coded_keys g rs i ks ls l h sh up =
       shuffled = sh;
       rising = up;
     }
-
--- the order of keys is that of their numbers
-abbrev pub by_code : IsTotalOrder (λ (x y : RowKey) (r : Ordering). MatchOrdering r (code_of x < code_of y) (code_of x ≡ code_of y) (code_of y < code_of x))
-by_code = record {
-  cmp = λ x y. nat_cmp (code_of x) (code_of y);
-  says = λ x y r h. (nat_cmp_total.says (code_of x) (code_of y) r h);
-  flip = λ x y. nat_cmp_total.antisymm (code_of x) (code_of y);
-  trans = λ x y z. nat_cmp_total.trans (code_of x) (code_of y) (code_of z);
-  alike = λ x y z. nat_cmp_total.congr (code_of x) (code_of y) (code_of z);
-}
 
 codes_at : (xs : List RowKey) (i : ℕ) (x : RowKey) → i < length xs → x ≡ get_or xs i x → get_or (codes xs) i 0 ≡ code_of x
 codes_at xs i x l e = get_or-map code_of xs i x 0 l ∙ ap code_of (sym e)

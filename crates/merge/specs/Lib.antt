@@ -1,3 +1,4 @@
 pub mod Merge
 pub mod Refine
 pub mod Soundness
+pub mod KeyOrder

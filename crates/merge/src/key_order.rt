@@ -1,15 +1,18 @@
 // The order of keys: form, points, arity, then the groups.
-ghost use Rattle.std.specs.Prelude.{◌≡◌, ◌<◌};
-ghost use Rattle.std.specs.Ordering.{MatchOrdering, nat_cmp};
-ghost use Rattle.merge.specs.Refine.{code_of};
 ghost use Rattle.std.specs.Cmp.Rules.{comparing};
-ghost use Rattle.std.proofs.Common.{rules, arith};
+ghost use Rattle.std.specs.Cmp.{partial_order_from_own_ties};
+ghost use Rattle.std.specs.Ordering.{as_partial_cmp, nat_cmp, on};
+ghost use Rattle.std.proofs.Common.{rules};
+ghost use Rattle.merge.specs.Refine.{code_of};
+ghost use Rattle.merge.specs.KeyOrder.{same_code};
 
 use crate::row_key::RowKey;
 use std::cmp::Ordering;
 
 impl PartialOrd for RowKey {
-    ghost laws = { first_of (Prim.search (comparing, rules), Prim.grind (arith, Self.row.coded.inj)) };
+    ghost partial_cmp = { as_partial_cmp (on code_of nat_cmp) };
+
+    ghost laws = { partial_order_from_own_ties (Prim.search (comparing, rules)) same_code };
 
     fn partial_cmp(&self, other: &RowKey) -> Option<Ordering> {
         Some(self.cmp(other))
@@ -17,13 +20,13 @@ impl PartialOrd for RowKey {
 }
 
 impl Ord for RowKey {
-    ghost cmp = { λ x y. nat_cmp (code_of x) (code_of y) };
+    ghost cmp = { on code_of nat_cmp };
 
-    ghost total = { first_of (Prim.search (comparing, rules), Prim.grind (arith, Self.row.coded.inj)) };
+    ghost total = { Prim.search (comparing, rules) };
 
-    ghost matches_partial_cmp = { first_of (Prim.search (comparing, rules), Prim.grind (arith, Self.row.coded.inj)) };
+    ghost matches_partial_cmp = { Prim.search (comparing, rules) };
 
-    ghost matches_eq = { first_of (Prim.search (comparing, rules), Prim.grind (arith, Self.row.coded.inj)) };
+    ghost matches_eq = { same_code };
 
     fn cmp(&self, other: &RowKey) -> Ordering {
         if self.form != other.form {

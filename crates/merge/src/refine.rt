@@ -58,7 +58,7 @@ fn keys(heap: Global, groups: &Vec<u16>, rows: &[Row]) -> Result<Vec<RowKey>, Al
     for row in rows {
         all.push(key(groups, *row))?;
     }
-    all.sort();
+    all.sort_unstable();
     Ok(all)
 }
 

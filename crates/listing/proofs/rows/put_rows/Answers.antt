@@ -7,7 +7,7 @@ use Rattle.listing.proofs.rows.put_rows.Goals as goal
 
 pub loop-state-preserved : goal.loop-state-preserved
 loop-state-preserved c =
-    rows_more (map vec_items c.args.names.now) _ _ _ (held_sealed c.args.sealed.now) c.loop-state.state (omega arith) c.loop-state.invariant c.in-ok-put-state-rows.ensures
+    rows_more (map vec_items c.args.names.now) _ _ _ (held_sealed c.args.sealed.now) c.loop-state.state (omega arith) c.loop-state.invariant c.in_ok-put_state_rows.ensures
 
 pub returns : goal.returns
 returns c = ends (rows_text (map vec_items c.args.names.now) c.loop-state.state) _ _ (held_sealed c.args.sealed.now).rows c.loop-state.state refl (omega arith) c.loop-state.invariant

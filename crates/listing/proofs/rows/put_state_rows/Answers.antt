@@ -6,7 +6,7 @@ use Rattle.listing.specs.Listing.{state_text}
 use Rattle.text.proofs.Lines.{ends}
 use Rattle.listing.proofs.Lines.{state_more, nth_within}
 use Rattle.listing.proofs.rows.put_state_rows.Goals as goal
-use Rattle.listing.proofs.rows.put_state_rows.Goals.{in-Some+in-ok-put-row, in-default}
+use Rattle.listing.proofs.rows.put_state_rows.Goals.{in-Some+in_ok-put_row, in_default}
 
 pub loop-place-preserved : goal.loop-place-preserved
 loop-place-preserved c =
@@ -15,8 +15,8 @@ loop-place-preserved c =
     let k = c.loop-place.place in
     let same = sym (ap (λ (m : Meaning). m.row s k) c.book-book.ensures.meaning) in
     elim c.match-row.branch [
-      | in-Some+in-ok-put-row w ↦ state_more (map vec_items c.args.names.now) s _ _ _ (rows_at l s) k (production w.in-Some.row) (same ∙ sym w.in-Some.ensures) c.loop-place.invariant (ap vec_items w.out-is ∙ w.in-ok-put-row.ensures)
-      | in-default w ↦ absurd (nth_within (rows_at l s) k (omega arith) (same ∙ sym w.in-default.ensures))
+      | in-Some+in_ok-put_row w ↦ state_more (map vec_items c.args.names.now) s _ _ _ (rows_at l s) k (production w.in-Some.row) (same ∙ sym w.in-Some.ensures) c.loop-place.invariant (ap vec_items w.out-is ∙ w.in_ok-put_row.ensures)
+      | in_default w ↦ absurd (nth_within (rows_at l s) k (omega arith) (same ∙ sym w.in_default.ensures))
     ]
 
 pub returns : goal.returns

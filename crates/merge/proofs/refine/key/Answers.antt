@@ -16,9 +16,9 @@ returns c =
     let small : Small s = record {
       points = omega arith;
       few = simp (length-map, length-take) (omega arith);
-      child_0 = omega (arith, c.child.ensures, c.child.type-inv);
-      child_1 = omega (arith, c.child-2.ensures, c.child-2.type-inv);
-      child_2 = omega (arith, c.child-3.ensures, c.child-3.type-inv);
-      child_3 = omega (arith, c.child-4.ensures, c.child-4.type-inv);
+      child_0 = omega (arith, c.child.ensures, c.child.type_inv);
+      child_1 = omega (arith, c.child-2.ensures, c.child-2.type_inv);
+      child_2 = omega (arith, c.child-3.ensures, c.child-3.type_inv);
+      child_3 = omega (arith, c.child-4.ensures, c.child-4.type_inv);
     } in
     record { value = e; back = ap decode e ∙ decode_code s small }

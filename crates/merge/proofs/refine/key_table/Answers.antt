@@ -9,5 +9,5 @@ use Rattle.merge.proofs.refine.key_table.Goals as goal
 
 pub loop-list-preserved : goal.loop-list-preserved
 loop-list-preserved c =
-    let P : List Row → Type 0 = λ z. Keys (map (renamed (at (vec_items c.args.groups.now))) (map production z)) (vec_items c.in-ok-sorted.sorted) in
-    keys_more (at (vec_items c.args.groups.now)) c.args.rows.now (vec_items c.loop-list.all) (vec_items c.push.new.self) c.list-item.result c.in-ok-sorted.sorted c.loop-list.list-index c.loop-list-test.true c.list-item.is c.in-ok-push.ensures.items (subst P c.as-slice.ensures.value c.in-ok-sorted.ensures) c.loop-list.invariant
+    let P : List Row → Type 0 = λ z. Keys (map (renamed (at (vec_items c.args.groups.now))) (map production z)) (vec_items c.in_ok-sorted.sorted) in
+    keys_more (at (vec_items c.args.groups.now)) c.args.rows.now (vec_items c.loop-list.all) (vec_items c.push.new.self) c.list-item.result c.in_ok-sorted.sorted c.loop-list.list-index c.loop-list-test.true c.list-item.is c.in_ok-push.ensures.items (subst P c.as_slice.ensures.value c.in_ok-sorted.ensures) c.loop-list.invariant

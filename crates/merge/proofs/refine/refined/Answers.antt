@@ -7,8 +7,8 @@ use Rattle.merge.proofs.refine.refined.Goals as goal
 
 pub loop-state-preserved : goal.loop-state-preserved
 loop-state-preserved c =
-    let P : List ℕ → List (Vec RowKey Global) → Type 0 = λ a b. LowestKeyed a b c.loop-state.state c.lowest-like-lowest.result in
-    names_more (vec_items c.args.groups.now) (vec_items c.in-ok-all.all) (vec_items c.loop-state.next) (vec_items c.push.new.self) c.lowest-like-lowest.result c.loop-state.state c.in-ok-push.ensures.items (subst₂ P c.as-slice.ensures.value c.as-slice-in-loop-state.ensures.value c.lowest-like-lowest.ensures) c.loop-state.invariant
+    let P : List ℕ → List (Vec RowKey Global) → Type 0 = λ a b. LowestKeyed a b c.loop-state.state c.lowest_like-lowest.result in
+    names_more (vec_items c.args.groups.now) (vec_items c.in_ok-all.all) (vec_items c.loop-state.next) (vec_items c.push.new.self) c.lowest_like-lowest.result c.loop-state.state c.in_ok-push.ensures.items (subst₂ P c.as_slice.ensures.value c.as_slice-in-loop-state.ensures.value c.lowest_like-lowest.ensures) c.loop-state.invariant
 
 pub returns : goal.returns
-returns c = refined_all c.args.rows.now (vec_items c.args.groups.now) (vec_items c.in-ok-all.all) (vec_items c.loop-state.next) c.loop-state.state (omega arith) c.in-ok-all.ensures c.loop-state.invariant
+returns c = refined_all c.args.rows.now (vec_items c.args.groups.now) (vec_items c.in_ok-all.all) (vec_items c.loop-state.next) c.loop-state.state (omega arith) c.in_ok-all.ensures c.loop-state.invariant

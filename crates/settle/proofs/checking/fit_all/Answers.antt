@@ -15,9 +15,9 @@ loop-state-preserved g c =
     let n = c.loop-state.state in
     elim c.if-marks-state.branch [
       | then-marks-state w ↦ (
-        every_add f n (λ s. leb (length (rows_of m s)) 32) c.loop-state.short _ c.loop-state.invariant.0 w.if-marks-state.true (w.short-is ∙ w.both-short.ensures ∙ ap (λ x. c.loop-state.short && x) w.fit-state-one.ensures.short),
-        every_add f n (λ s. every (has_form (arities_of c.args.forms.now)) (rows_of m s)) c.loop-state.formed _ c.loop-state.invariant.1 w.if-marks-state.true (w.formed-is ∙ w.both-formed.ensures ∙ ap (λ x. c.loop-state.formed && x) w.fit-state-one.ensures.formed),
-        every_add f n (λ s. every (λ p. leb p.points 1000) (rows_of m s)) c.loop-state.cheap _ c.loop-state.invariant.2 w.if-marks-state.true (w.cheap-is ∙ w.both-cheap.ensures ∙ ap (λ x. c.loop-state.cheap && x) w.fit-state-one.ensures.cheap),
+        every_add f n (λ s. leb (length (rows_of m s)) 32) c.loop-state.short _ c.loop-state.invariant.0 w.if-marks-state.true (w.short-is ∙ w.both-short.ensures ∙ ap (λ x. c.loop-state.short && x) w.fit_state-one.ensures.short),
+        every_add f n (λ s. every (has_form (arities_of c.args.forms.now)) (rows_of m s)) c.loop-state.formed _ c.loop-state.invariant.1 w.if-marks-state.true (w.formed-is ∙ w.both-formed.ensures ∙ ap (λ x. c.loop-state.formed && x) w.fit_state-one.ensures.formed),
+        every_add f n (λ s. every (λ p. leb p.points 1000) (rows_of m s)) c.loop-state.cheap _ c.loop-state.invariant.2 w.if-marks-state.true (w.cheap-is ∙ w.both-cheap.ensures ∙ ap (λ x. c.loop-state.cheap && x) w.fit_state-one.ensures.cheap),
       )
       | else-marks-state w ↦ (
         every_skip f n (λ s. leb (length (rows_of m s)) 32) c.loop-state.short _ c.loop-state.invariant.0 w.if-marks-state.false w.short-is,

@@ -7,7 +7,7 @@ use Rattle.settle.proofs.Spreading.{marking_more}
 use Rattle.settle.proofs.reaching.mark_children.Goals as goal
 
 -- the child is a state that has a mark
-within : (c : goal.After-marks·1) → get_or c.args.row.children c.loop-i.i 0 < length c.loop-i.marks
+within : (c : goal.After-marks-1) → get_or c.args.row.children c.loop-i.i 0 < length c.loop-i.marks
 within c =
     let e = child_at c.loop-i.marks c.args.row c.width-i-end.result c.loop-i.i c.width-i-end.ensures.value c.loop-i-test.true in
     omega (arith, e, c.loop-i.auto.marks, all_below_at (length c.args.marks.now) (production c.args.row).children c.loop-i.i c.requires (omega (arith, c.width-i-end.ensures.value)))

@@ -14,8 +14,8 @@ loop-state-smaller g c = asked_less c.loop-state.asked c.in-Some.state c.loop-st
 
 pub loop-state-preserved : goal.loop-state-preserved
 loop-state-preserved g c =
-    reaching_more (g.A.Automaton.meaning c.args.pile.now) (g.A.Automaton.sound c.args.pile.now) c.loop-state.marks c.mark-next.new.marks c.loop-state.asked c.in-Some.state c.loop-state.invariant
-    (omega (arith, c.in-Some.ensures, c.loop-state.invariant.0)) c.mark-next.auto.marks c.mark-next.ensures.keeps c.mark-next.ensures.right c.mark-next.ensures.followed
+    reaching_more (g.A.Automaton.meaning c.args.pile.now) (g.A.Automaton.sound c.args.pile.now) c.loop-state.marks c.mark_next.new.marks c.loop-state.asked c.in-Some.state c.loop-state.invariant
+    (omega (arith, c.in-Some.ensures, c.loop-state.invariant.0)) c.mark_next.auto.marks c.mark_next.ensures.keeps c.mark_next.ensures.right c.mark_next.ensures.followed
 
 pub returns : goal.returns
-returns g c = all_asked (g.A.Automaton.meaning c.args.pile.now) (g.A.Automaton.sound c.args.pile.now) c.loop-state.marks c.loop-state.asked c.loop-state.invariant c.in-default.ensures
+returns g c = all_asked (g.A.Automaton.meaning c.args.pile.now) (g.A.Automaton.sound c.args.pile.now) c.loop-state.marks c.loop-state.asked c.loop-state.invariant c.in_default.ensures

@@ -14,6 +14,6 @@ loop-state-preserved g c =
     let old = held c.args.target.now in
     let f = mark c.args.marks.now in
     elim c.if-marks-state.branch [
-      | then-marks-state w ↦ states_more old f c.loop-state.state (held c.loop-state.target) _ (λ s. numbered_rows n s (rows_of m s)) c.loop-state.invariant w.if-marks-state.true (ap held w.target-is ∙ w.enter-rows.ensures)
+      | then-marks-state w ↦ states_more old f c.loop-state.state (held c.loop-state.target) _ (λ s. numbered_rows n s (rows_of m s)) c.loop-state.invariant w.if-marks-state.true (ap held w.target-is ∙ w.enter_rows.ensures)
       | else-marks-state w ↦ states_same old f c.loop-state.state (held c.loop-state.target) _ (λ s. numbered_rows n s (rows_of m s)) c.loop-state.invariant w.if-marks-state.false (ap held w.target-is)
     ]

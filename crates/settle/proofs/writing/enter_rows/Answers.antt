@@ -5,7 +5,7 @@ use Rattle.register.specs.Held.{held}
 use Rattle.ledger.specs.Ledger.{add_row, entry_step}
 use Rattle.settle.proofs.EntriesMade.{row_more, row_same}
 use Rattle.settle.proofs.writing.enter_rows.Goals as goal
-use Rattle.settle.proofs.writing.enter_rows.Goals.{in-Some, in-default}
+use Rattle.settle.proofs.writing.enter_rows.Goals.{in-Some, in_default}
 
 pub renumbered-requires : goal.renumbered-requires
 renumbered-requires g c =
@@ -20,6 +20,6 @@ loop-place-preserved g c =
     let old = held c.args.target.now in
     elim c.match-row.branch [
       | in-Some w ↦ row_more old m n c.args.state c.loop-place.place (held c.loop-place.target) _ c.loop-place.invariant (production w.in-Some.row) (sym w.in-Some.ensures)
-          (ap held w.target-is ∙ w.enter-row.ensures ∙ ap (λ p. entry_step (held c.loop-place.target) (add_row (n c.args.state) p)) w.renumbered.ensures)
-      | in-default w ↦ row_same old m n c.args.state c.loop-place.place (held c.loop-place.target) _ c.loop-place.invariant (sym w.in-default.ensures) (ap held w.target-is)
+          (ap held w.target-is ∙ w.enter_row.ensures ∙ ap (λ p. entry_step (held c.loop-place.target) (add_row (n c.args.state) p)) w.renumbered.ensures)
+      | in_default w ↦ row_same old m n c.args.state c.loop-place.place (held c.loop-place.target) _ c.loop-place.invariant (sym w.in_default.ensures) (ap held w.target-is)
     ]

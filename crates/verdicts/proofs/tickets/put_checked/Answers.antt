@@ -6,5 +6,5 @@ use Rattle.verdicts.proofs.tickets.put_checked.Goals as goal
 
 pub returns : goal.returns
 returns c =
-    c.in-ok-put-verdict.ensures
-    ∙ ap (λ (x : List ℕ). vec_items c.args.out.now ++ x) (told (held_sealed c.args.sealed.now) c.args.number (ticket_of c.args.ticket.now) _ _ _ c.in-ok-yes.ensures c.in-ok-count.ensures c.in-ok-fewest.ensures)
+    c.in_ok-put_verdict.ensures
+    ∙ ap (λ (x : List ℕ). vec_items c.args.out.now ++ x) (told (held_sealed c.args.sealed.now) c.args.number (ticket_of c.args.ticket.now) _ _ _ c.in_ok-yes.ensures c.in_ok-count.ensures c.in_ok-fewest.ensures)

@@ -6,5 +6,5 @@ use Rattle.verdicts.proofs.tickets.put_verdict.Goals as goal
 pub returns : goal.returns
 returns c =
     verdict_whole _ _ _ _ _ _ _ _ (yes_word c.args.yes.yes) _ _ c.args.count.count _ c.args.fewest.points
-    (c.as-bytes.ensures.value ∙ c.word.ensures ∙ ap yes_word c.yes.ensures.value) c.count.ensures.value c.points.ensures.value
-    c.in-ok-push.ensures.items c.in-ok-put-number.ensures c.in-ok-put-field.ensures c.in-ok-put-number-2.ensures c.in-ok-put-number-3.ensures c.in-ok-push-2.ensures.items
+    (c.as_bytes.ensures.value ∙ c.word.ensures ∙ ap yes_word c.yes.ensures.value) c.count.ensures.value c.points.ensures.value
+    c.in_ok-push.ensures.items c.in_ok-put_number.ensures c.in_ok-put_field.ensures c.in_ok-put_number-2.ensures c.in_ok-put_number-3.ensures c.in_ok-push-2.ensures.items

@@ -13,26 +13,26 @@ returns-then-len-ge8 c =
     let full : leb 8 (length (map barred (vec_items c.args.self.now.bars))) ≡ true = le-leb 8 _ (omega (arith, lists_long c.args.self.now.bars barred, c.len.ensures)) in
     search rules
 
-pub overflow-cast-bar : goal.overflow-cast-bar
-overflow-cast-bar c =
+pub overflow_cast-bar : goal.overflow_cast-bar
+overflow_cast-bar c =
     let r = c.args.self.now in
-    let h = given_below r.forms c.deref.result.now c.args.line 2 _ c.in-ok-outer.outer c.deref.ensures.value c.in-ok-outer.ensures in
+    let h = given_below r.forms c.deref.result.now c.args.line 2 _ c.in_ok-outer.outer c.deref.ensures.value c.in_ok-outer.ensures in
     omega (arith, r.formed)
 
-pub overflow-cast-bar-2 : goal.overflow-cast-bar-2
-overflow-cast-bar-2 c =
+pub overflow_cast-bar-2 : goal.overflow_cast-bar-2
+overflow_cast-bar-2 c =
     let r = c.args.self.now in
-    let h = given_below r.forms c.deref-2.result.now c.args.line 4 _ c.in-ok-inner.inner c.deref-2.ensures.value c.in-ok-inner.ensures in
+    let h = given_below r.forms c.deref-2.result.now c.args.line 4 _ c.in_ok-inner.inner c.deref-2.ensures.value c.in_ok-inner.ensures in
     omega (arith, r.formed)
 
-pub returns-in-err-check-bar : goal.returns-in-err-check-bar
-returns-in-err-check-bar c =
+pub returns-in_err-check_bar : goal.returns-in_err-check_bar
+returns-in_err-check_bar c =
     let room : leb 8 (length (map barred (vec_items c.args.self.now.bars))) ≡ false = lt-leb 8 _ (omega (arith, lists_long c.args.self.now.bars barred, c.len.ensures)) in
-    let told : bar_line c.args.line (entered_by c.args.self.now c.args.register.now) (to_read c.args.lexer) ≡ Err c.in-err-check-bar.field-0.0 = search rules in
-    refuses _ _ _ c.from-residual-in-err-check-bar.result c.in-err-check-bar.field-0.0 c.from-residual-in-err-check-bar.ensures.1 told (search rules)
+    let told : bar_line c.args.line (entered_by c.args.self.now c.args.register.now) (to_read c.args.lexer) ≡ Err c.in_err-check_bar.field-0.0 = search rules in
+    refuses _ _ _ c.from_residual-in_err-check_bar.result c.in_err-check_bar.field-0.0 c.from_residual-in_err-check_bar.ensures.1 told (search rules)
 
 pub returns : goal.returns
 returns c =
     let room : leb 8 (length (map barred (vec_items c.args.self.now.bars))) ≡ false = lt-leb 8 _ (omega (arith, lists_long c.args.self.now.bars barred, c.len.ensures)) in
-    let more = ap (map barred) c.in-ok-push.ensures.items ∙ map_push barred (vec_items c.args.self.now.bars) _ in
+    let more = ap (map barred) c.in_ok-push.ensures.items ∙ map_push barred (vec_items c.args.self.now.bars) _ in
     search rules

@@ -5,4 +5,4 @@ use Rattle.sheet.proofs.InOrder.{first_fault, entered_in_order}
 use Rattle.sheet.proofs.notes.Notes.read.Goals as goal
 
 pub returns : goal.returns
-returns c = record { reads = c.read-lines.ensures; first_fault = first_fault; in_order = entered_in_order; parted = all_parted; numbers = numbers_law; places = places_exact }
+returns c = record { reads = c.read_lines.ensures; first_fault = first_fault; in_order = entered_in_order; parted = all_parted; numbers = numbers_law; places = places_exact }

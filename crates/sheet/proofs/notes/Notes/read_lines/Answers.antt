@@ -14,4 +14,4 @@ returns-in-Err c =
 pub returns : goal.returns
 returns c =
     let fits = le-leb (length c.args.sheet.now) 32768 c.if-sheet-gt32768.false in
-    cond-true _ _ _ fits ∙ c.loop-bytes.invariant.1 ∙ ap (λ (l : List ℕ). lines_entered (c.loop-bytes.line + 1) (entered_by c.loop-bytes.self c.loop-bytes.register) (lines l)) c.in-default.ensures
+    cond-true _ _ _ fits ∙ c.loop-bytes.invariant.1 ∙ ap (λ (l : List ℕ). lines_entered (c.loop-bytes.line + 1) (entered_by c.loop-bytes.self c.loop-bytes.register) (lines l)) c.in_default.ensures

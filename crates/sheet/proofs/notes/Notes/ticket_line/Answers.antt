@@ -18,18 +18,18 @@ returns-then-len-ge64 c =
     let full : leb 64 (length (map vec_items (vec_items c.args.self.now.tickets))) ≡ true = le-leb 64 _ (omega (arith, lists_long c.args.self.now.tickets vec_items, c.len.ensures)) in
     search rules
 
-pub returns-in-err-check-ticket : goal.returns-in-err-check-ticket
-returns-in-err-check-ticket c =
+pub returns-in_err-check_ticket : goal.returns-in_err-check_ticket
+returns-in_err-check_ticket c =
     let e = entered_by c.args.self.now c.args.register.now in
-    let ns = vec_items c.in-ok-nodes.nodes in
-    let f = c.in-err-check-ticket.field-0.0 in
+    let ns = vec_items c.in_ok-nodes.nodes in
+    let f = c.in_err-check_ticket.field-0.0 in
     let room : leb 64 (length (map vec_items (vec_items c.args.self.now.tickets))) ≡ false = lt-leb 64 _ (omega (arith, lists_long c.args.self.now.tickets vec_items, c.len.ensures)) in
-    let low : at_ticket c.args.line (ticket_checked (held c.args.register.now).arities ns) ≡ Err f = ap (λ (xs : List ℕ). at_ticket c.args.line (ticket_checked (held c.args.register.now).arities xs)) (sym c.deref-2.ensures.value) ∙ sym c.in-err-check-ticket.ensures in
-    let told : ticket_line c.args.line e (to_read c.args.lexer) ≡ Err f = ticket_refused c.args.line e (to_read c.args.lexer) ns f (ap (λ (xs : List (Vec ℕ Global)). places_at (map vec_items xs) c.args.line 2 (to_read c.args.lexer)) (sym c.deref.ensures.value) ∙ c.in-ok-nodes.ensures) room low in
-    refuses _ _ _ c.from-residual-in-err-check-ticket.result f c.from-residual-in-err-check-ticket.ensures.1 told (search rules)
+    let low : at_ticket c.args.line (ticket_checked (held c.args.register.now).arities ns) ≡ Err f = ap (λ (xs : List ℕ). at_ticket c.args.line (ticket_checked (held c.args.register.now).arities xs)) (sym c.deref-2.ensures.value) ∙ sym c.in_err-check_ticket.ensures in
+    let told : ticket_line c.args.line e (to_read c.args.lexer) ≡ Err f = ticket_refused c.args.line e (to_read c.args.lexer) ns f (ap (λ (xs : List (Vec ℕ Global)). places_at (map vec_items xs) c.args.line 2 (to_read c.args.lexer)) (sym c.deref.ensures.value) ∙ c.in_ok-nodes.ensures) room low in
+    refuses _ _ _ c.from_residual-in_err-check_ticket.result f c.from_residual-in_err-check_ticket.ensures.1 told (search rules)
 
 pub returns : goal.returns
 returns c =
     let room : leb 64 (length (map vec_items (vec_items c.args.self.now.tickets))) ≡ false = lt-leb 64 _ (omega (arith, lists_long c.args.self.now.tickets vec_items, c.len.ensures)) in
-    let more = ap (map vec_items) c.in-ok-push.ensures.items ∙ map_push vec_items (vec_items c.args.self.now.tickets) _ in
+    let more = ap (map vec_items) c.in_ok-push.ensures.items ∙ map_push vec_items (vec_items c.args.self.now.tickets) _ in
     search rules
