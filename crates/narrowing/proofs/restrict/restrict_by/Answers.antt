@@ -34,7 +34,7 @@ returns g c =
     let was = held c.args.target.now in
     let is = held c.narrow.new.target in
     let mb : book_meaning c.book-book.result ≡ book l = c.book-book.ensures.meaning in
-    let e : product_checked (book l) rule ≡ Ok tt = ap (λ b. product_checked b rule) (sym mb) ∙ sym c.in-default.ensures in
+    let e : product_checked (book l) rule ≡ Ok tt = ap (λ b. product_checked b rule) (sym mb) ∙ sym c.in_default.ensures in
     let narrows : Narrows (product (book l) rule) was c.narrow.result is = subst (λ x. Narrows x was c.narrow.result is) (c.new-2.ensures.meaning ∙ ap (λ b. product b rule) mb) c.narrow.ensures.answers in
     record {
       answers = subst (λ x. by_check x (product (book l) rule) was c.narrow.result is) (sym e) narrows;
