@@ -25,43 +25,43 @@ is_sealed v = refl
 target_formed : (v : Sealed) (xs : List ℕ) (was blank : Ledger) → blank ≡ blank_ledger → xs ≡ (held_sealed v).arities → was ≡ enter_all blank (map add_form xs) → was ≡ formed (held_sealed v).arities
 target_formed v xs was blank eb ex ew = ew ∙ ap (λ z. enter_all z (map add_form xs)) eb ∙ ap (λ z. enter_all blank_ledger (map add_form z)) ex ∙ formed_from (held_sealed v) (good_held v)
 
-pub returns-then-is-empty : goal.returns-then-is-empty
-returns-then-is-empty t c =
+pub returns-then-is_empty : goal.returns-then-is_empty
+returns-then-is_empty t c =
     let n = c.args.notes.now in
     let rules = c.args.rules.now in
     no_rule_left (vec_items n.levels) [] (lists n.forms) (lists n.tickets) (held_sealed c.args.current.now) rules _ _ c.listing.result
-    (eqb-true (length rules) 0 (sym c.is-empty.ensures ∙ c.if-is-empty.true)) (ap (map vec_items) c.deref.ensures.value) (ap (map vec_items) c.deref-then-is-empty.ensures.value) c.listing.ensures.answers
+    (eqb-true (length rules) 0 (sym c.is_empty.ensures ∙ c.if-is_empty.true)) (ap (map vec_items) c.deref.ensures.value) (ap (map vec_items) c.deref-then-is_empty.ensures.value) c.listing.ensures.answers
 
-pub returns-in-err-narrowed : goal.returns-in-err-narrowed
-returns-in-err-narrowed t c =
-    let e = err_from_is_err_and c.from-residual-in-err-narrowed.result c.from-residual-in-err-narrowed.ensures.1 in
+pub returns-in_err-narrowed : goal.returns-in_err-narrowed
+returns-in_err-narrowed t c =
+    let e = err_from_is_err_and c.from_residual-in_err-narrowed.result c.from_residual-in_err-narrowed.ensures.1 in
     let n = c.args.notes.now in
     let v = c.args.current.now in
     let rules = c.args.rules.now in
-    let some = eqb-false (length rules) 0 (sym c.is-empty.ensures ∙ c.if-is-empty.false) in
+    let some = eqb-false (length rules) 0 (sym c.is_empty.ensures ∙ c.if-is_empty.false) in
     first_stops (vec_items n.levels) c.deref-2.result.now (lists n.forms) (lists n.tickets) (held_sealed v) rules (good_held v) (is_sealed v) _ (omega (arith, some)) c.deref-2.ensures.value
-    (held c.enter-forms.new.target) (held c.by-rule.new.target) (target_formed v _ (held c.enter-forms.new.target) (held c.blank-target.result) c.blank-target.ensures.value c.forms.ensures c.enter-forms.ensures)
-    c.in-err-narrowed.field-0.0 c.from-residual-in-err-narrowed.result (e.1 ∙ ap Err e.2) c.in-err-narrowed.ensures
+    (held c.enter_forms.new.target) (held c.by_rule.new.target) (target_formed v _ (held c.enter_forms.new.target) (held c.blank-target.result) c.blank-target.ensures.value c.forms.ensures c.enter_forms.ensures)
+    c.in_err-narrowed.field-0.0 c.from_residual-in_err-narrowed.result (e.1 ∙ ap Err e.2) c.in_err-narrowed.ensures
 
-pub returns-in-err-push : goal.returns-in-err-push
-returns-in-err-push t c =
-    let e = err_from_is_err_and c.from-residual-in-err-push.result c.from-residual-in-err-push.ensures.1 in
+pub returns-in_err-push : goal.returns-in_err-push
+returns-in_err-push t c =
+    let e = err_from_is_err_and c.from_residual-in_err-push.result c.from_residual-in_err-push.ensures.1 in
     let n = c.args.notes.now in
     subst (Returns (Only (Lists (vec_items n.levels) (held_sealed c.args.current.now) c.args.rules.now (lists n.forms) (lists n.tickets)))) (sym (e.1 ∙ ap Err e.2)) tt
 
 pub seal-next-requires : goal.seal-next-requires
 seal-next-requires t c =
     let v = c.args.current.now in
-    steps_seal _ (held_sealed v) c.in-ok-narrowed.narrowed (held c.enter-forms.new.target) (held c.by-rule.new.target) (target_formed v _ (held c.enter-forms.new.target) (held c.blank-target.result) c.blank-target.ensures.value c.forms.ensures c.enter-forms.ensures)
-    (pile_sound_of (held_sealed v) (good_held v) (is_sealed v) c.deref-2.result.now _) c.in-ok-narrowed.ensures
+    steps_seal _ (held_sealed v) c.in_ok-narrowed.narrowed (held c.enter_forms.new.target) (held c.by_rule.new.target) (target_formed v _ (held c.enter_forms.new.target) (held c.blank-target.result) c.blank-target.ensures.value c.forms.ensures c.enter_forms.ensures)
+    (pile_sound_of (held_sealed v) (good_held v) (is_sealed v) c.deref-2.result.now _) c.in_ok-narrowed.ensures
 
 pub returns : goal.returns
 returns t c =
     let n = c.args.notes.now in
     let v = c.args.current.now in
     let rules = c.args.rules.now in
-    let some = eqb-false (length rules) 0 (sym c.is-empty.ensures ∙ c.if-is-empty.false) in
+    let some = eqb-false (length rules) 0 (sym c.is_empty.ensures ∙ c.if-is_empty.false) in
     first_goes_on (vec_items n.levels) c.deref-2.result.now (lists n.forms) (lists n.tickets) (held_sealed v) rules (good_held v) (is_sealed v) _ (omega (arith, some)) c.deref-2.ensures.value
-    (held c.enter-forms.new.target) (held c.by-rule.new.target) (target_formed v _ (held c.enter-forms.new.target) (held c.blank-target.result) c.blank-target.ensures.value c.forms.ensures c.enter-forms.ensures)
-    c.in-ok-narrowed.narrowed (held_sealed c.seal-next.result) c.onward.result c.in-ok-narrowed.ensures c.seal-next.ensures.steps
+    (held c.enter_forms.new.target) (held c.by_rule.new.target) (target_formed v _ (held c.enter_forms.new.target) (held c.blank-target.result) c.blank-target.ensures.value c.forms.ensures c.enter_forms.ensures)
+    c.in_ok-narrowed.narrowed (held_sealed c.seal-next.result) c.onward.result c.in_ok-narrowed.ensures c.seal-next.ensures.steps
     (subst (λ xs. Returns (Only (Lists (vec_items n.levels) (held_sealed c.seal-next.result) xs (lists n.forms) (lists n.tickets))) c.onward.result) (take_all (length rules - 1) (drop 1 rules) (omega (arith, length-drop 1 rules))) c.onward.ensures)

@@ -6,7 +6,7 @@ use Rattle.register.specs.Held.{held}
 use Rattle.settle.proofs.EntriesMade.{entry_taken}
 use Rattle.restrictions.proofs.Ruling.{forms_more, forms_end}
 use Rattle.restrictions.proofs.rules.enter_forms.Goals as goal
-use Rattle.restrictions.proofs.rules.enter_forms.Goals.{in-Some, in-default}
+use Rattle.restrictions.proofs.rules.enter_forms.Goals.{in-Some, in_default}
 
 pub loop-form-preserved : goal.loop-form-preserved
 loop-form-preserved c =
@@ -19,7 +19,7 @@ loop-form-preserved c =
           let same : w.in-Some.arity ≡ get_or xs i 0 = (let e = w.in-Some.is in cc) in
           forms_more (held c.args.target.now) (held c.loop-form.target) _ xs i l c.loop-form.invariant
           (ap held w.target-is ∙ entry_taken c.loop-form.target w.form.new.self (add_form w.in-Some.arity) w.form.ensures.steps ∙ ap (λ a. entry_step (held c.loop-form.target) (add_form a)) same)
-      | in-default w ↦ absurd (let e = w.in-default.is in let z : ◌≡◌ {A = ℕ} 0 1 = cc in omega arith)
+      | in_default w ↦ absurd (let e = w.in_default.is in let z : ◌≡◌ {A = ℕ} 0 1 = cc in omega arith)
     ]
 
 pub returns : goal.returns
