@@ -12,8 +12,9 @@ import sys
 
 NAME = re.compile(r"[^\s(){}\[\];,.:«»\"`]+")
 DEFINITION = re.compile(
-    r"^\s*(?:(?:abbrev|unfoldable|pub|record|data)\s+)*([A-Za-z][^\s(){}:,;.]*)(?:\s+\([^)]*\)|\s+\{[^}]*\})*\s+:\s+(.*)"
+    r"^\s*(?:(?:abbrev|unfoldable|pub|record|data)\s+)*([A-Za-z][^\s(){}:,;.]*)(?:\s+\([^)]*\)|\s+\{[^}]*\})*\s+:(?:\s+(.*))?$"
 )
+ALIAS = re.compile(r" as ([A-Za-z][A-Za-z0-9]*-[A-Za-z0-9-]+)[,}]")
 TEXT = re.compile(r'"(?:[^"\\]|\\.)*"')
 # where the plain spelling is the name of a function in a file that cites the definition
 APART = {"all-at-most": "each_at_most", "all-marked": "each_marked", "node-field": "field_of_node"}
@@ -40,12 +41,15 @@ def of_function(path):
 
 
 def defined(files):
+    """What the files define, or bring in under another name, that is spelled otherwise today."""
     names = {}
     for path in files:
         for line in open(path):
-            m = DEFINITION.match(line)
-            if m and not m.group(2).startswith(("goal.", "given.")) and spelled(m.group(1)) != m.group(1):
-                names.setdefault(m.group(1), path)
+            m = DEFINITION.match(line.rstrip("\n"))
+            own = [m.group(1)] if m and not (m.group(2) or "").startswith(("goal.", "given.")) else []
+            for name in own + ALIAS.findall(line):
+                if spelled(name) != name:
+                    names.setdefault(name, path)
     return names
 
 
@@ -82,7 +86,7 @@ def spell(text, names, path):
 def main():
     antt = [p for d in ("specs", "proofs") for p in sorted(glob.glob(f"crates/*/{d}/**/*.antt", recursive=True))]
     code = sorted(glob.glob("crates/*/src/**/*.rt", recursive=True))
-    names = defined(antt)
+    names = defined(antt + code)
     if "--list" in sys.argv:
         for name, path in sorted(names.items()):
             print(name, spelled(name), path)

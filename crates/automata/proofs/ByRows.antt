@@ -1,11 +1,11 @@
 -- The worth of a node, row by row.
-use Rattle.std.proofs.Common.{◌≡◌, ℕ, Bool, true, false, cond, List, [], ◌∷◌, ◌++◌, map, Some, None, Option, sym, refl, ap, ◌∙◌, ap₂}
-use Rattle.tickets.specs.Ticket.{Ticket, Tickets, node, nil, cons}
+use Rattle.std.proofs.Common.{◌≡◌, ℕ, Bool, true, false, cond, List, [], ◌∷◌, map, Some, None, Option, sym, refl, ap, ◌∙◌, ap₂}
+use Rattle.tickets.specs.Ticket.{Tickets, nil, cons}
 use Rattle.automata.specs.Automaton.{Meaning, Production}
-use Rattle.automata.specs.Reading.{Reading, Readings, by, rnil, rcons, readings, readings_all, row_readings, combine, fits, upto}
+use Rattle.automata.specs.Reading.{Reading, Readings, by, rcons, readings, readings_all, row_readings, combine, fits, upto}
 use Rattle.automata.specs.Measure.{Ops, Laws}
 use Rattle.automata.specs.Worth.{sum, worth, reading_worth, readings_worth, children_worth, row_worth, WorthByRows}
-use Rattle.automata.proofs.Sums.{plus_none_right, times_none_right, sum_cong, sum_map, sum_append, sum_times, sum_concat}
+use Rattle.automata.proofs.Sums.{plus_none_right, sum_cong, sum_map, sum_append, sum_times, sum_concat}
 
 module _ {M : Type 0} {o : Ops M} (laws : Laws o) where
   combine_worth : (rs : List Reading) (all : List Readings) → sum o (readings_worth o) (combine rs all) ≡ o.times (sum o (reading_worth o) rs) (sum o (readings_worth o) all)

@@ -1,13 +1,13 @@
 -- The cells of the table, one product, one row, one node at a time.
-use Rattle.std.proofs.Common.{◌≡◌, ℕ, zero, suc, ◌+◌, ◌-◌, ◌*◌, ◌<◌, ◌≤◌, Bool, true, false, cond, ◌&&◌, eqb, ltb, ◌⊎◌, List, [], ◌∷◌, ◌++◌, length, get_or, take, drop, set, Some, None, Option, sym, refl, ap, ◌∙◌, subst, ap₂, inl, inr, add-mul, one-mul, arith}
-use Rattle.std.proofs.lemmas.List.{drop_more, drop_all, get_or-take, length-take, get_or_read, get_or-set_same, get_or-set_other}
-use Rattle.std.proofs.lemmas.Bool.{ltb-true, cases_eq, and_parts, eq-eqb, ne_eqb, cond-true, cond-false, and_left, and_right, and_from}
-use Rattle.tickets.specs.Ticket.{Ticket, Tickets, node, nil, cons, count}
+use Rattle.std.proofs.Common.{◌≡◌, ℕ, zero, suc, ◌+◌, ◌*◌, ◌<◌, ◌≤◌, true, cond, ◌&&◌, eqb, ltb, ◌⊎◌, List, [], ◌∷◌, length, get_or, take, drop, set, Some, None, Option, sym, refl, ap, ◌∙◌, subst, ap₂, inl, inr, add-mul, one-mul, arith}
+use Rattle.std.proofs.lemmas.List.{drop_more, drop_all, get_or-take, length-take, get_or-set_same, get_or-set_other}
+use Rattle.std.proofs.lemmas.Bool.{ltb-true, cases_eq, and_parts}
+use Rattle.tickets.specs.Ticket.{Tickets, node, nil, cons, count}
 use Rattle.automata.specs.Automaton.{Meaning, Production, all_below, Closed}
-use Rattle.automata.specs.Reading.{upto, fits}
+use Rattle.automata.specs.Reading.{upto}
 use Rattle.automata.specs.Measure.{Ops, Laws}
 use Rattle.automata.specs.Worth.{sum, worth, children_worth, row_worth}
-use Rattle.automata.specs.Table.{Within, Line, Lines, cells_worth, cells_row, cells_node}
+use Rattle.automata.specs.Table.{Lines, cells_worth, cells_row, cells_node}
 use Rattle.automata.proofs.Sums.{plus_none_right, sum_append, sum_below}
 use Rattle.automata.proofs.ByRows.{worth_by_rows}
 

@@ -1,9 +1,9 @@
 -- The list of readings has each reading, and no other, once.
-use Rattle.std.proofs.Common.{◌≡◌, ℕ, zero, suc, ◌<◌, Bool, true, false, cond, ◌&&◌, eqb, ◌⊎◌, List, [], ◌∷◌, ◌++◌, map, length, Some, None, Option, sym, refl, ap, ◌∙◌, subst, inl, inr, ⊎_elim, arith}
+use Rattle.std.proofs.Common.{◌≡◌, ℕ, suc, Bool, true, false, cond, eqb, List, [], ◌∷◌, map, length, Some, None, Option, sym, refl, ap, ◌∙◌, subst, inl, inr, ⊎_elim, arith}
 use Rattle.std.proofs.lemmas.Bool.{and_parts, and_from, eqb-true, eq-eqb}
 use Rattle.tickets.specs.Ticket.{Ticket, Tickets, node, nil, cons, count}
 use Rattle.automata.specs.Automaton.{Meaning, Production}
-use Rattle.automata.specs.Reading.{Reading, Readings, by, rnil, rcons, readings, readings_all, row_readings, combine, fits, upto, Reads, ReadsAll, Member, Distinct, ListsOnce, ReadingsExact}
+use Rattle.automata.specs.Reading.{Reading, Readings, by, rnil, rcons, readings, readings_all, row_readings, combine, fits, upto, Reads, ReadsAll, Member, Distinct, ReadingsExact}
 use Rattle.automata.proofs.Members.{member_cases, member_left, member_right, distinct_append, member_upto, upto_below, distinct_upto, member_map, map_member, distinct_map, member_concat, concat_member, distinct_concat}
 
 member_combine : (r : Reading) (x : Readings) (rs : List Reading) (all : List Readings) → Member r rs → Member x all → Member (rcons r x) (combine rs all)

@@ -1,9 +1,7 @@
 -- What the worth is in each of the three measures.
-use Rattle.std.proofs.Common.{◌≡◌, ℕ, suc, ◌+◌, ◌*◌, ◌<◌, ◌≤◌, min, true, ◌&&◌, ◌||◌, ◌⊎◌, ◌↔◌, List, [], ◌∷◌, length, sym, refl, ap, ◌∙◌, subst, ap₂, inl, inr, ⊎_elim, arith}
+use Rattle.std.proofs.Common.{◌≡◌, ℕ, ◌+◌, ◌*◌, ◌<◌, ◌≤◌, min, true, ◌&&◌, ◌||◌, ◌⊎◌, List, [], ◌∷◌, length, refl, ap, ◌∙◌, ap₂, inl, inr, ⊎_elim, arith}
 use Rattle.std.proofs.lemmas.Bool.{cases_lt}
-use Rattle.tickets.specs.Ticket.{Ticket}
-use Rattle.automata.specs.Automaton.{Meaning}
-use Rattle.automata.specs.Reading.{Reading, Readings, by, rnil, rcons, Reads, Accepts, readings, Member}
+use Rattle.automata.specs.Reading.{Reading, Readings, by, rnil, rcons, readings, Member}
 use Rattle.automata.specs.Measures.{yes_no, reading_count, fewest_points}
 use Rattle.automata.specs.Worth.{sum, reading_worth, readings_worth, total_points, total_points_of, YesAccepts, CountsReadings, FewestOfReadings}
 use Rattle.automata.proofs.EachOnce.{readings_exact}

@@ -1,18 +1,18 @@
 -- The table of worths, node by node.
-use Rattle.std.proofs.Common.{◌≡◌, ℕ, zero, suc, ◌+◌, ◌-◌, ◌*◌, ◌<◌, ◌≤◌, Bool, true, false, cond, ltb, ◌⊎◌, List, [], ◌∷◌, ◌++◌, length, get_or, take, drop, set, is_ok, Ok, Err, Result, sym, refl, ap, ◌∙◌, subst, ap₂, inl, inr, mul-le-mul_right, add-one, arith}
+use Rattle.std.proofs.Common.{◌≡◌, ℕ, zero, suc, ◌+◌, ◌-◌, ◌*◌, ◌<◌, ◌≤◌, Bool, true, false, cond, ltb, ◌⊎◌, List, [], ◌∷◌, ◌++◌, length, get_or, take, drop, set, is_ok, Ok, Err, Result, sym, refl, ap, ◌∙◌, subst, inl, inr, mul-le-mul_right, add-one, arith}
 use Rattle.std.proofs.lemmas.List.{drop_more, take_more, take-take, drop-take, take_more_set, length-set}
 use Rattle.std.proofs.lemmas.Bool.{ltb-false, cases_eq}
 use Rattle.refusals.specs.declared.refusal.TicketRefusal.{TicketRefusal}
 use Rattle.refusals.specs.declared.refusal.TicketRefusal.TheVariants.{Long}
 use Rattle.tickets.specs.Ticket.{Ticket, Tickets, node, nil, cons, count}
 use Rattle.automata.specs.Automaton.{Meaning}
-use Rattle.automata.specs.Measure.{Ops, Laws}
+use Rattle.automata.specs.Measure.{Ops}
 use Rattle.tickets.specs.Check.{scan, ticket_checked, join, first, rest, last, grown, forest, tree}
 use Rattle.automata.specs.Table.{Line, Lines, prefix_tree}
 use Rattle.tickets.proofs.Scans.{scan_first}
 use Rattle.tickets.proofs.Forests.{grown_count, forest_append, last_join}
 use Rattle.tickets.proofs.Checks.{ok_from}
-use Rattle.automata.proofs.Cells.{cell_in, line_end}
+use Rattle.automata.proofs.Cells.{cell_in}
 
 abbrev Verdict : Type 0
 Verdict = Result (Unit {0}) TicketRefusal

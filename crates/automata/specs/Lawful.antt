@@ -1,14 +1,14 @@
 -- The laws of the measures.
 use Rattle.std.specs.Prelude.{◌≡◌, ℕ, zero, suc, ◌+◌, ◌*◌, ◌<◌, ◌≤◌, min, ◌⊎◌, refl}
-use Rattle.std.proofs.Common.{sym, ap, ap₂, ◌∙◌, inl, inr, mul_comm, mul_assoc, mul-add, one-mul, zero-mul, mul-zero, mul-le-mul_left, arith}
+use Rattle.std.proofs.Common.{sym, ap, ◌∙◌, inl, inr, mul_comm, mul_assoc, mul-add, one-mul, zero-mul, mul-zero, mul-le-mul_left, arith}
 use mathlib.Core.HLevel.{is_prop→PathP}
 use Rattle.std.proofs.Math.Nat.{min-eq_left, min-eq_right}
 use Rattle.std.proofs.Math.Bridge.{le_prop}
 use Rattle.std.proofs.lemmas.Bool.{cases_lt}
 use Rattle.automata.specs.declared.reading_count.ReadingCount.{ReadingCount}
 use Rattle.automata.specs.declared.fewest_points.FewestPoints.{FewestPoints}
-use Rattle.automata.specs.Measure.{Ops, Laws}
-use Rattle.automata.specs.Measures.{yes_no, reading_count, fewest_points}
+use Rattle.automata.specs.Measure.{Laws}
+use Rattle.automata.specs.Measures.{reading_count, fewest_points}
 
 -- equal numbers make equal values
 pub same_count : (x y : ReadingCount) → x.count ≡ y.count → x ≡ y

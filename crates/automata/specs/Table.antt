@@ -2,7 +2,7 @@
 use Rattle.std.specs.Prelude.{◌≡◌, ℕ, suc, ◌+◌, ◌*◌, ◌<◌, ◌≤◌, cond, ◌&&◌, List, [], ◌∷◌, length, take, Some, None, Ok, Err, Option, Result, ◌==◌, nat_lt, slice_index, slice_index_or}
 use Rattle.refusals.specs.declared.refusal.WorthRefusal.{WorthRefusal}
 use Rattle.refusals.specs.declared.refusal.WorthRefusal.TheVariants.{Start, Scratch}
-use Rattle.tickets.specs.Ticket.{Ticket, Tickets, node, nil, cons, postfix, subtree}
+use Rattle.tickets.specs.Ticket.{Ticket, Tickets, nil, cons, postfix, subtree}
 use Rattle.automata.specs.Automaton.{Meaning, Production}
 use Rattle.automata.specs.Reading.{upto}
 use Rattle.automata.specs.Measure.{Ops}

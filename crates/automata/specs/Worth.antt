@@ -1,5 +1,5 @@
 -- The worth of a ticket: the sum over its readings of the product of their rows' values.
-use Rattle.std.specs.Prelude.{◌≡◌, ℕ, ◌+◌, ◌≤◌, min, true, cond, ◌⊎◌, ◌↔◌, List, [], ◌∷◌, map, length, Some, None, Option}
+use Rattle.std.specs.Prelude.{◌≡◌, ℕ, ◌+◌, ◌≤◌, min, true, cond, ◌⊎◌, ◌↔◌, List, [], ◌∷◌, length, Some, None, Option}
 use Rattle.tickets.specs.Ticket.{Ticket, Tickets, node, nil, cons}
 use Rattle.automata.specs.Automaton.{Meaning, Production}
 use Rattle.automata.specs.Reading.{Reading, Readings, by, rnil, rcons, Reads, Accepts, readings, fits, upto}

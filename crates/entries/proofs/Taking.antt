@@ -1,5 +1,5 @@
 -- What an entry from a line makes of the ledger.
-use Rattle.std.proofs.Common.{◌≡◌, ℕ, ◌+◌, ◌<◌, List, [], length, set, IfSome, Ok, Err, Result, sym, refl, ap, ◌∙◌, add-zero, arith}
+use Rattle.std.proofs.Common.{◌≡◌, ℕ, ◌+◌, ◌<◌, List, [], length, IfSome, Ok, Err, Result, sym, refl, ap, ◌∙◌, add-zero, arith}
 use Rattle.std.proofs.lemmas.List.{length_push, length-set}
 use Rattle.refusals.specs.declared.refusal.Refusal.TheVariants.{Register}
 use Rattle.refusals.specs.declared.refusal.RegisterRefusal.{RegisterRefusal}

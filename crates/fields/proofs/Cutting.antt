@@ -1,9 +1,9 @@
 -- Laws of lines and fields.
-use Rattle.std.proofs.Common.{◌≡◌, ℕ, ◌+◌, ◌<◌, Bool, true, false, cond, not, eqb, List, [], ◌∷◌, ◌++◌, length, is_some, Some, None, Option, sym, refl, ap, ◌∙◌, subst, arith, Bor, eq-eqb, ne_eqb, eqb-true}
+use Rattle.std.proofs.Common.{◌≡◌, ℕ, ◌+◌, ◌<◌, Bool, true, false, cond, not, eqb, List, [], ◌∷◌, length, is_some, Some, None, Option, sym, refl, ap, ◌∙◌, arith, Bor, eq-eqb, ne_eqb, eqb-true}
 use borrow.Author.Tests.{eqb-false}
 use Rattle.std.specs.List.{AllByRecursion as All}
 use Rattle.std.proofs.lemmas.Bool.{not-true, not-false}
-use Rattle.fields.specs.Parts.{grow, lines, fields, before, after, seen, left, ended, closed, tabbed, Lacks, Parted, AllParted}
+use Rattle.fields.specs.Parts.{grow, lines, fields, before, after, seen, left, ended, closed, tabbed, Lacks, AllParted}
 use Rattle.fields.specs.Tokens.{classed, first, others}
 use Rattle.fields.specs.Words.{number_of}
 

@@ -6,9 +6,9 @@ use Rattle.std.proofs.lemmas.Bool.{eqb-false}
 use Rattle.fields.specs.Names.{name_at, given_at, places_at}
 use Rattle.fields.specs.declared.fault.Fault.{Fault}
 use Rattle.fields.specs.declared.fault.Stop.{Stop}
-use Rattle.fields.specs.declared.fault.Stop.TheVariants.{Refused, Memory}
+use Rattle.fields.specs.declared.fault.Stop.TheVariants.{Refused}
 use Rattle.fields.specs.Fault.{bind, Steps}
-use Rattle.fields.specs.Tokens.{Word, classed, first, head, others, spelled, numbered}
+use Rattle.fields.specs.Tokens.{classed, first, head, others, spelled, numbered}
 use Rattle.fields.specs.Words.{number_of}
 
 pub past : {X Y E : Type 0} (r : Result X E) (f : X → Result Y E) (x : X) → r ≡ Ok x → bind r f ≡ f x

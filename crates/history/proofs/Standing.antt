@@ -177,14 +177,14 @@ module _ (h : List Call) (known : Known h) where
   done_stands (enter (add_row s' q)) sc ok s k p e =
       let t = entry_ok (ledger h) (add_row s' q) ok in
       let w = row_ok (ledger h) s' q t.0 t.1 in
-      let other-call : (s j : ℕ) → enter (add_row s' q) ≡ enter (strike_row s j) → ⊥ = λ s j x. let z : ◌≡◌ {A = ℕ} 0 1 = cc in omega arith in
+      let other_call : (s j : ℕ) → enter (add_row s' q) ≡ enter (strike_row s j) → ⊥ = λ s j x. let z : ◌≡◌ {A = ℕ} 0 1 = cc in omega arith in
       ⊎_elim
       (λ (same : s ≡ s').
       ⊎_elim
-      (λ old. keep (enter (add_row s' q)) s k p other-call (ap (λ x. nth (rows_at (ledger h) x) k) same ∙ old))
+      (λ old. keep (enter (add_row s' q)) s k p other_call (ap (λ x. nth (rows_at (ledger h) x) k) same ∙ old))
       (λ new. stand_at s' s q p t.0 k (sym same) new.1 (w.place ∙ sym new.0) (taken h s' t.0 q ok (sym t.1)))
       (nth_push (rows_at (ledger h) s') q k p (sym (ap (λ x. nth (rows_at (done (ledger h) (enter (add_row s' q))) x) k) same ∙ ap (λ ps. nth ps k) (taken_at (ledger h) s' q t.0 t.1)) ∙ e)))
-      (λ apart. keep (enter (add_row s' q)) s k p other-call (sym (ap (λ ps. nth ps k) (get_or-set_other (ledger h).rows s' s (rows_at (ledger h) s' ++ q ∷ []) [] apart)) ∙ e))
+      (λ apart. keep (enter (add_row s' q)) s k p other_call (sym (ap (λ ps. nth ps k) (get_or-set_other (ledger h).rows s' s (rows_at (ledger h) s' ++ q ∷ []) [] apart)) ∙ e))
       (cases_eq s s')
     where
       stand_at : (s s₁ : ℕ) (p p₁ : Production) (k k₁ : ℕ) → s ≡ s₁ → p ≡ p₁ → k ≡ k₁ → Stands (h ++ enter (add_row s' q) ∷ []) s k p → Stands (h ++ enter (add_row s' q) ∷ []) s₁ k₁ p₁

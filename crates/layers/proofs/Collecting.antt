@@ -1,5 +1,5 @@
 -- The steps of the loops that collect rows.
-use Rattle.std.proofs.Common.{◌≡◌, ℕ, zero, suc, ◌+◌, ◌<◌, ◌≤◌, ◌⊎◌, List, [], ◌∷◌, ◌++◌, map, length, get_or, take, Some, None, vec_items, Option, Vec, sym, refl, ap, ◌∙◌, subst, ap₂, inl, inr, ⊎_elim, add-one, arith}
+use Rattle.std.proofs.Common.{◌≡◌, ℕ, zero, suc, ◌+◌, ◌<◌, List, [], ◌∷◌, ◌++◌, map, length, get_or, Some, None, vec_items, Option, Vec, sym, refl, ap, ◌∙◌, subst, ap₂, inl, ⊎_elim, add-one, arith}
 use Rattle.std.specs.Option.{option_to_list}
 use Rattle.std.specs.declared.alloc.Global.{Global}
 use Rattle.std.proofs.lemmas.List.{append-nil, map_push, length_push, length-map, get_or_append_left, get_or_push, get_or-map}
@@ -9,7 +9,7 @@ use Rattle.automata.specs.Automaton.{Meaning, Production, production, shown}
 use Rattle.automata.specs.Reading.{Member}
 use Rattle.automata.proofs.Members.{member_cases, member_left, member_right}
 use Rattle.automata.specs.Rows.{rows_below, rows_of}
-use Rattle.layers.specs.Rows.{listing, table_rows, TableTo}
+use Rattle.layers.specs.Rows.{listing, TableTo}
 
 rows_more : (m : Meaning) (q k : ℕ) → rows_below m q (k + 1) ≡ rows_below m q k ++ option_to_list (m.row q k)
 rows_more m q k = rw add-one

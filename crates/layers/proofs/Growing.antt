@@ -1,17 +1,17 @@
 -- Marks that grow: by one, by a row's children, and round after round.
-use Rattle.std.proofs.Common.{◌≡◌, ℕ, zero, suc, ◌+◌, ◌-◌, ◌<◌, ◌≤◌, Bool, true, false, cond, ◌&&◌, ◌||◌, ◌⊎◌, List, [], ◌∷◌, ◌++◌, map, length, get_or, take, set, replicate, Some, Decides, sym, refl, ap, ◌∙◌, subst, ap₂, inl, inr, ⊎_elim, arith, below_more}
+use Rattle.std.proofs.Common.{◌≡◌, ℕ, zero, suc, ◌+◌, ◌-◌, ◌<◌, ◌≤◌, Bool, true, false, cond, ◌⊎◌, List, [], ◌∷◌, ◌++◌, map, length, get_or, take, set, replicate, Some, Decides, sym, refl, ap, ◌∙◌, subst, inl, inr, ⊎_elim, arith, below_more}
 use Rattle.std.specs.List.{AllByRecursion as All}
 use Rattle.std.proofs.lemmas.List.{length-set, take_more, take_all, map_more, get_or-map, length-map, get_or-replicate, get_or_past, length-replicate, get_or-set_same, get_or-set_other}
 use Rattle.std.proofs.lemmas.Bool.{and_parts, and_from, both_ways, cases_Bool, cases_eq, cases_lt, true≢false}
 use Rattle.automata.specs.Automaton.{Meaning, Production, Sound, all_below}
 use Rattle.automata.specs.Reading.{Member}
-use Rattle.automata.proofs.Members.{member_cases, member_left, member_right}
+use Rattle.automata.proofs.Members.{member_cases}
 use Rattle.layers.specs.Marks.{mark, each_marked, marked, Ready, Unready}
 use Rattle.layers.specs.Marks.{Stuck}
-use Rattle.automata.specs.Rows.{rows_below, rows_of}
+use Rattle.automata.specs.Rows.{rows_of}
 use Rattle.layers.specs.Trim.{Productive, Kept, root, next}
 use Rattle.layers.specs.Growth.{Grows, SomeReady, Led, AllProductive, AllKept, Spread}
-use Rattle.layers.proofs.Marking.{mark_here, mark_other, mark_keeps, marked_le, marked_more, all_from_marked, all_below_at}
+use Rattle.layers.proofs.Marking.{mark_here, mark_other, mark_keeps, marked_le, marked_more, all_from_marked}
 use Rattle.layers.proofs.Productives.{usable_productive, place_below, state_below, stuck_productive}
 use Rattle.layers.proofs.Collecting.{rows_member, member_rows}
 use Rattle.layers.proofs.Readiness.{row_within}

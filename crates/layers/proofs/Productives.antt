@@ -1,11 +1,11 @@
 -- Marks that rows lead to, and that are closed under rows, are on the productive states.
-use Rattle.std.proofs.Common.{◌≡◌, ℕ, ◌<◌, ◌≤◌, Bool, true, false, ◌&&◌, ◌⊎◌, List, [], ◌∷◌, Some, None, sym, refl, ap, ◌∙◌, subst, inl, inr, ⊎_elim, arith}
+use Rattle.std.proofs.Common.{◌≡◌, ℕ, ◌<◌, Bool, true, List, [], ◌∷◌, Some, refl, ⊎_elim, arith}
 use Rattle.std.specs.List.{AllByRecursion as All}
 use Rattle.std.proofs.lemmas.Bool.{and_from, both_ways, cases_lt}
 use Rattle.tickets.specs.Ticket.{Ticket, Tickets, node, nil, cons}
 use Rattle.automata.specs.Automaton.{Meaning, Production, Sound}
-use Rattle.automata.specs.Reading.{Reading, Readings, by, rnil, rcons, Reads, ReadsAll, Accepts}
-use Rattle.layers.specs.Marks.{each_marked, Unready}
+use Rattle.automata.specs.Reading.{Reading, Readings, by, rnil, rcons, Reads, ReadsAll}
+use Rattle.layers.specs.Marks.{each_marked}
 use Rattle.layers.specs.Marks.{Stuck}
 use Rattle.layers.specs.Trim.{Productive, Usable}
 

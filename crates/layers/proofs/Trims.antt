@@ -1,11 +1,10 @@
 -- Trimming keeps the readings from the root, and there is one way to trim.
-use Rattle.std.proofs.Common.{◌≡◌, ℕ, zero, suc, ◌<◌, Bool, true, false, cond, ◌&&◌, ◌⊎◌, List, [], ◌∷◌, ◌++◌, map, Some, None, Decides, Option, sym, refl, ap, ◌∙◌, subst, ap₂, inl, inr, ⊎_elim, arith}
+use Rattle.std.proofs.Common.{◌≡◌, ℕ, Bool, true, false, cond, ◌⊎◌, List, [], ◌∷◌, map, Some, None, Decides, Option, sym, refl, ap, ◌∙◌, subst, ap₂, inl, inr, ⊎_elim, arith}
 use mathlib.Core.Path.{fun_ext}
 use Rattle.std.specs.List.{AllByRecursion as All}
-use Rattle.std.proofs.lemmas.Bool.{both_ways, and_parts, and_from, cases_Bool}
 use Rattle.tickets.specs.Ticket.{Ticket, Tickets, node, nil, cons}
 use Rattle.automata.specs.Automaton.{Meaning, Production}
-use Rattle.automata.specs.Reading.{Reading, Readings, by, rcons, Reads, readings, readings_all, row_readings, concat, combine, fits, upto, Member}
+use Rattle.automata.specs.Reading.{Reading, by, Reads, readings, readings_all, row_readings, concat, combine, fits, upto, Member}
 use Rattle.automata.specs.Measure.{Ops}
 use Rattle.automata.specs.Worth.{sum, reading_worth, worth}
 use Rattle.automata.proofs.EachOnce.{readings_exact}

@@ -1,5 +1,5 @@
 -- How marks grow while a trim is made.
-use Rattle.std.specs.Prelude.{◌≡◌, ℕ, ◌<◌, Bool, true, false, ◌⊎◌, List, length, Some}
+use Rattle.std.specs.Prelude.{◌≡◌, ℕ, ◌<◌, Bool, true, false, List, length, Some}
 use Rattle.automata.specs.Automaton.{Meaning, Production}
 use Rattle.automata.specs.Reading.{Member}
 use Rattle.layers.specs.Marks.{mark, each_marked, marked}

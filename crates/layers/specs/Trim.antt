@@ -2,7 +2,7 @@
 use Rattle.std.specs.Prelude.{◌≡◌, ℕ, Bool, cond, ◌↔◌, Some, None, Option}
 use Rattle.std.specs.List.{AllByRecursion as All}
 use Rattle.tickets.specs.Ticket.{Ticket}
-use Rattle.automata.specs.Automaton.{Meaning, Production, Sound}
+use Rattle.automata.specs.Automaton.{Meaning, Production}
 use Rattle.automata.specs.Reading.{Accepts, Member}
 use Rattle.automata.specs.Measure.{Ops}
 use Rattle.automata.specs.Worth.{worth}

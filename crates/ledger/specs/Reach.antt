@@ -1,6 +1,5 @@
 -- The states that rows reach from the root of an automaton, and how settle numbers them.
-use Rattle.std.specs.Prelude.{◌≡◌, ℕ, zero, suc, ◌<◌, Bool, false, cond, ◌&&◌, ◌||◌, List, [], ◌∷◌, ◌++◌, map, length, Some, None, Decides, Option, ◌==◌, nat_eq, slice_index}
-use Rattle.std.specs.Option.{option_to_list}
+use Rattle.std.specs.Prelude.{◌≡◌, ℕ, zero, suc, ◌<◌, Bool, false, cond, ◌&&◌, ◌||◌, List, [], ◌∷◌, ◌++◌, length, Some, None, Decides, Option, ◌==◌, nat_eq, slice_index}
 use Rattle.automata.specs.Automaton.{Meaning, Production, Sound}
 
 -- the root, and each child of a row of a reached state

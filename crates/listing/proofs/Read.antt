@@ -1,5 +1,5 @@
 -- The whole listing, from its parts.
-use Rattle.std.proofs.Common.{◌≡◌, ℕ, List, [], ◌++◌, Ok, Err, Result, sym, ap, ◌∙◌, append_assoc}
+use Rattle.std.proofs.Common.{◌≡◌, ℕ, List, [], ◌++◌, Ok, Result, sym, ap, ◌∙◌, append_assoc}
 use Rattle.ledger.specs.Ledger.{Ledger}
 use Rattle.fields.specs.declared.fault.Fault.{Fault}
 use Rattle.fields.specs.declared.fault.Stop.{Stop}

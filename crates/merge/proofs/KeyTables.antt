@@ -1,5 +1,5 @@
 -- The steps of the loops that fill tables of keys, and a round from its parts.
-use Rattle.std.proofs.Common.{◌≡◌, ℕ, ◌+◌, ◌<◌, ◌≤◌, List, [], ◌∷◌, ◌++◌, map, length, get_or, vec_items, Vec, sym, refl, ap, ◌∙◌, subst, ap₂, arith}
+use Rattle.std.proofs.Common.{◌≡◌, ℕ, ◌+◌, ◌<◌, List, [], ◌∷◌, ◌++◌, map, length, get_or, vec_items, Vec, sym, ap, ◌∙◌, subst, arith}
 use Rattle.std.specs.declared.alloc.Global.{Global}
 use Rattle.std.proofs.lemmas.List.{map_push, length_push, length-map, get_or-map}
 use Rattle.automata.specs.declared.row.Row.{Row}
@@ -8,7 +8,7 @@ use Rattle.merge.specs.declared.row_key.RowKey.{RowKey}
 use Rattle.layers.specs.Rows.{listing, table_rows}
 use Rattle.automata.specs.Rows.{renamed}
 use Rattle.merge.specs.Merge.{at}
-use Rattle.merge.specs.Refine.{Round, Keys, keys_at, LowestKeyed, KeysTo, NamesTo, Refined}
+use Rattle.merge.specs.Refine.{Keys, keys_at, LowestKeyed, KeysTo, NamesTo, Refined}
 use Rattle.layers.proofs.Collecting.{below_push}
 use Rattle.merge.proofs.Keys.{lowest_from_keys}
 

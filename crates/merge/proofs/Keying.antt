@@ -1,11 +1,11 @@
 -- The keys of a list of rows, one by one, and their order.
-use Rattle.std.proofs.Common.{◌≡◌, ℕ, ◌+◌, ◌<◌, ◌≤◌, List, [], ◌∷◌, ◌++◌, map, length, get_or, take, Ordering, Less, Equal, Greater, sym, refl, ap, ◌∙◌, subst, ap₂, arith}
-use Rattle.std.specs.Ordering.{MatchOrdering, nat_cmp}
+use Rattle.std.proofs.Common.{◌≡◌, ℕ, ◌+◌, ◌<◌, ◌≤◌, List, [], ◌∷◌, ◌++◌, map, length, get_or, take, Ordering, Equal, sym, ap, ◌∙◌, ap₂, arith}
+use Rattle.std.specs.Ordering.{MatchOrdering}
 use Rattle.std.specs.List.Sorted.{IsNonDecreasingBy, IsPermutation}
 use Rattle.std.proofs.lemmas.List.{map_push, take_more, take_more_same, take_all, get_or-map, length-map}
 use Rattle.std.proofs.lemmas.Cmp.{by_ranked}
 use Rattle.automata.specs.declared.row.Row.{Row}
-use Rattle.automata.specs.Automaton.{Production, production}
+use Rattle.automata.specs.Automaton.{production}
 use Rattle.merge.specs.declared.row_key.RowKey.{RowKey}
 use Rattle.automata.specs.Rows.{renamed}
 use Rattle.merge.specs.Refine.{code, decode, code_of, codes, Keys}

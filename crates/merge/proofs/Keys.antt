@@ -1,15 +1,15 @@
 -- States have equal keys where they have each row equally often.
-use Rattle.std.proofs.Common.{◌≡◌, ℕ, zero, suc, ◌+◌, ◌*◌, ◌/◌, ◌%◌, ◌<◌, ◌≤◌, Bool, true, false, cond, eqb, ◌⊎◌, List, [], ◌∷◌, ◌++◌, map, length, get_or, take, sum_by, sym, refl, ap, ◌∙◌, ap₂, inl, inr, ⊎_elim, add_assoc, add_comm, arith}
+use Rattle.std.proofs.Common.{◌≡◌, ℕ, ◌+◌, ◌*◌, ◌/◌, ◌%◌, ◌<◌, ◌≤◌, false, cond, eqb, ◌⊎◌, List, [], ◌∷◌, map, length, get_or, take, sum_by, sym, refl, ap, ◌∙◌, ap₂, inl, inr, add_assoc, add_comm, arith}
 use Rattle.std.specs.List.{AllByRecursion as All}
-use Rattle.std.specs.List.Sorted.{IsNonDecreasing, IsNonDecreasingBy, IsPermutation}
+use Rattle.std.specs.List.Sorted.{IsNonDecreasing, IsNonDecreasingBy}
 use Rattle.std.proofs.lemmas.List.{get_or-map, length-map}
 use Rattle.std.proofs.lemmas.List.Sums.{sum_by-cons}
 use Rattle.std.proofs.lemmas.List.Sorted.{sum_by-IsPermutation, IsNonDecreasingBy-drop}
 use Rattle.std.proofs.ByRecursion.{All-from_get_or}
-use Rattle.std.proofs.lemmas.Bool.{eqb-true, eqb-false, eq-eqb, ne_eqb, cases_order}
+use Rattle.std.proofs.lemmas.Bool.{eq-eqb, ne_eqb, cases_order}
 use Rattle.automata.specs.Automaton.{Production}
 use Rattle.automata.specs.Rows.{renamed}
-use Rattle.merge.specs.Merge.{same, tally, Like, at}
+use Rattle.merge.specs.Merge.{same, tally, at}
 use Rattle.merge.specs.declared.row_key.RowKey.{RowKey}
 use Rattle.merge.specs.Refine.{Lowest, code, decode, code_of, codes, Keys, keys_at, LowestKeyed}
 use Rattle.merge.proofs.Tally.{sums, same_sums}

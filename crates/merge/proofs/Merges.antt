@@ -1,18 +1,17 @@
 -- Merging keeps the worth.
-use Rattle.std.proofs.Common.{◌≡◌, ℕ, zero, suc, ◌+◌, ◌<◌, ◌≤◌, Bool, true, false, cond, ◌&&◌, eqb, ltb, List, [], ◌∷◌, ◌++◌, map, length, Some, None, Option, sym, refl, ap, ◌∙◌, subst, ap₂, arith}
+use Rattle.std.proofs.Common.{◌≡◌, ℕ, zero, suc, ◌<◌, true, cond, ◌&&◌, eqb, ltb, List, [], ◌∷◌, ◌++◌, map, Some, None, Option, sym, refl, ap, ◌∙◌, subst, ap₂, arith}
 use mathlib.Core.Path.{fun_ext}
 use lib.ListN.{length-map}
 use Rattle.std.specs.Option.{option_map, option_to_list}
-use Rattle.std.specs.List.{AllByRecursion as All}
 use Rattle.std.proofs.lemmas.List.{map-append}
 use Rattle.std.proofs.lemmas.Bool.{ltb-true, lt-ltb, and_parts}
 use Rattle.tickets.specs.Ticket.{Ticket, Tickets, node, nil, cons, count}
 use Rattle.automata.specs.Automaton.{Meaning, Production, Sound, Closed, all_below}
-use Rattle.automata.specs.Reading.{fits, readings, row_readings, readings_all, upto, concat}
+use Rattle.automata.specs.Reading.{readings, row_readings, readings_all, upto, concat}
 use Rattle.automata.specs.Measure.{Ops, Laws}
 use Rattle.automata.specs.Worth.{sum, worth, reading_worth, row_worth, children_worth}
 use Rattle.automata.specs.Rows.{renamed, rows_below, rows_of}
-use Rattle.merge.specs.Merge.{tally, Respects, Named, Coarsest, merged, MergePreserves}
+use Rattle.merge.specs.Merge.{tally, Respects, Named, merged, MergePreserves}
 use Rattle.merge.proofs.Tally.{sums, same_sums}
 use Rattle.automata.proofs.Sums.{sum_map}
 use Rattle.automata.proofs.RowLists.{all_rows, sum_all, worth_by_list}

@@ -1,14 +1,14 @@
 -- Rounds of refinement reach the coarsest grouping that respects the rows.
-use Rattle.std.proofs.Common.{◌≡◌, ℕ, zero, suc, ◌+◌, ◌<◌, ◌≤◌, Bool, true, false, cond, ◌&&◌, eqb, ltb, ◌⊎◌, List, [], ◌∷◌, ◌++◌, map, Some, None, Option, sym, refl, ap, ◌∙◌, ap₂, inl, inr, ⊎_elim, add_assoc, add_comm, arith}
-use Rattle.std.specs.Option.{option_map, option_to_list}
+use Rattle.std.proofs.Common.{◌≡◌, ℕ, zero, suc, ◌+◌, ◌<◌, ◌≤◌, Bool, true, false, cond, eqb, ltb, List, [], ◌∷◌, map, Some, None, Option, sym, refl, ap, ◌∙◌, ap₂, ⊎_elim, add_assoc, add_comm, arith}
+use Rattle.std.specs.Option.{option_to_list}
 use Rattle.std.proofs.ByRecursion.{All-append}
 use Rattle.std.specs.List.{AllByRecursion as All}
 use Rattle.std.proofs.lemmas.Bool.{eqb-true, eqb-false, eq-eqb, ltb-true, and_parts, ne_eqb, cond_both, cases_eq}
 use Rattle.std.proofs.lemmas.Bool.Decides.{nat_tests}
 use Rattle.automata.specs.Automaton.{Meaning, Production, Sound, Closed, all_below}
 use Rattle.automata.specs.Rows.{renamed, rows_below, rows_of}
-use Rattle.merge.specs.Merge.{same, tally, Like, Respects, Refines, Named, Coarsest, Joined, MergeJoins, MergeOne}
-use Rattle.merge.specs.Refine.{Lowest, Round, groups}
+use Rattle.merge.specs.Merge.{same, tally, Like, Respects, Refines, Named, Coarsest, MergeJoins, MergeOne}
+use Rattle.merge.specs.Refine.{Round, groups}
 use Rattle.merge.proofs.Tally.{sums, same_sums, tally_sums}
 
 -- a state below n of the group x, if there is one

@@ -1,14 +1,14 @@
 -- The loop of rounds.
-use Rattle.std.proofs.Common.{◌≡◌, ℕ, zero, suc, ◌+◌, ◌-◌, ◌<◌, ◌≤◌, ◌⊎◌, List, [], ◌∷◌, ◌++◌, map, length, get_or, replicate, Vec, sym, refl, ap, ◌∙◌, subst, ap₂, inl, inr, ⊎_elim, arith}
+use Rattle.std.proofs.Common.{◌≡◌, ℕ, ◌-◌, ◌<◌, ◌≤◌, List, map, length, replicate, Vec, sym, ap, ◌∙◌, ⊎_elim, arith}
 use Rattle.std.specs.declared.alloc.Global.{Global}
 use Rattle.std.proofs.lemmas.List.{ext_get_or, get_or-replicate, get_or_past, length-replicate}
 use Rattle.std.proofs.lemmas.Bool.{cases_lt}
 use Rattle.automata.specs.declared.row.Row.{Row}
 use Rattle.automata.specs.Automaton.{Meaning, Production, Sound}
 use Rattle.automata.specs.Rows.{renamed, rows_of}
-use Rattle.merge.specs.Merge.{at, tally, Like, Named, Coarsest}
+use Rattle.merge.specs.Merge.{at, tally, Coarsest}
 use Rattle.layers.specs.Rows.{table_rows, TableTo}
-use Rattle.merge.specs.Refine.{Lowest, Round, groups, Refined}
+use Rattle.merge.specs.Refine.{Round, groups, Refined}
 use Rattle.merge.proofs.Merging.{Reached, reached_start, reached_round, reached_end, round_stops, groups_le_all}
 
 -- a round over rows that are the same below n

@@ -1,5 +1,5 @@
 -- The children of a row, each by its name.
-use Rattle.std.proofs.Common.{◌≡◌, ℕ, zero, suc, ◌<◌, ◌≤◌, min, List, [], ◌∷◌, map, length, get_or, take, sym, refl, ap, ◌∙◌, ap₂, arith}
+use Rattle.std.proofs.Common.{◌≡◌, ℕ, ◌<◌, ◌≤◌, min, List, [], ◌∷◌, map, length, get_or, take, ap, ◌∙◌, arith}
 use Rattle.std.proofs.lemmas.List.{take-map, length-take, length-map, get_or-map, get_or-take, get_or_past}
 
 pub four : (g : ℕ → ℕ) (n : ℕ) (cs : List ℕ) (a b c d : ℕ) → length cs ≡ 4 → a ≡ g (get_or cs 0 0) → b ≡ g (get_or cs 1 0) → c ≡ g (get_or cs 2 0) → d ≡ g (get_or cs 3 0) → take n (a ∷ b ∷ c ∷ d ∷ []) ≡ map g (take n cs)

@@ -3,7 +3,7 @@ use Rattle.std.specs.Prelude.{◌≡◌, ℕ, zero, suc, ◌+◌, ◌*◌, ◌/�
 use Rattle.std.specs.declared.alloc.Global.{Global}
 use Rattle.std.specs.List.Sorted.{IsNonDecreasingBy, IsPermutation}
 use Rattle.automata.specs.declared.row.Row.{Row}
-use Rattle.automata.specs.Automaton.{Meaning, Production}
+use Rattle.automata.specs.Automaton.{Production}
 use Rattle.merge.specs.declared.row_key.RowKey.{RowKey}
 use Rattle.layers.specs.Rows.{table_rows}
 use Rattle.automata.specs.Rows.{renamed}

@@ -1,17 +1,14 @@
 -- The promise on worth, collected from the laws of its parts.
-use Rattle.std.proofs.Common.{◌≡◌, ℕ, ◌+◌, ◌*◌, ◌<◌, ◌≤◌, Bool, true, false, cond, ltb, List, [], ◌∷◌, ◌++◌, is_ok, Ok, Err, Result, sym, refl, ap, ◌∙◌, subst, ap₂, mul_comm, arith}
+use Rattle.std.proofs.Common.{◌≡◌, ℕ, ◌*◌, ◌≤◌, Bool, true, false, cond, ltb, [], ◌∷◌, is_ok, Ok, Err, Result, sym, refl, ap, subst, mul_comm, arith}
 use Rattle.std.proofs.lemmas.Nat.{mul-lt, mul-add-lt}
 use Rattle.std.proofs.lemmas.Bool.{lt-ltb, ltb-true}
 use Rattle.refusals.specs.declared.refusal.WorthRefusal.{WorthRefusal}
 use Rattle.refusals.specs.declared.refusal.WorthRefusal.TheVariants.{Start, Scratch}
-use Rattle.tickets.specs.Ticket.{Ticket}
 use Rattle.automata.specs.Automaton.{Meaning, Sound}
-use Rattle.automata.specs.Reading.{Reading}
 use Rattle.automata.specs.Measure.{Ops, Laws}
-use Rattle.automata.specs.Worth.{sum, reading_worth, worth}
-use Rattle.automata.specs.Table.{worth_answer, cells_needed}
-use Rattle.ledger.specs.Ledger.{Ledger, Call, settle, settle_answer, seal, accepted, step, steps, ledger, book}
-use Rattle.history.specs.Stands.{SoundCalls, ListsStanding}
+use Rattle.automata.specs.Worth.{worth}
+use Rattle.automata.specs.Table.{cells_needed}
+use Rattle.ledger.specs.Ledger.{settle, seal, ledger, book}
 use Rattle.ledger.specs.Soundness.{good_sound}
 use Rattle.ledger.proofs.Steps.{ledger_more}
 use Rattle.ledger.proofs.GoodLedgers.{ledger_good}
@@ -20,7 +17,7 @@ use Rattle.history.proofs.SettledWorth.{settle_preserves}
 use Rattle.search.proofs.Searches.{search_tells}
 use Rattle.layers.proofs.Trims.{trim_preserves}
 use Rattle.product.specs.declared.sizes.Sizes.{Sizes}
-use Rattle.product.specs.Product.{product, product_checked, pair, sized}
+use Rattle.product.specs.Product.{product, product_checked, pair}
 use Rattle.product.specs.Soundness.{sized_sound}
 use Rattle.product.proofs.Sized.{sized_product, checked_states, checked_places}
 use Rattle.product.proofs.Products.{product_multiplies}

@@ -1,5 +1,5 @@
 -- The worth after a restriction.
-use Rattle.std.proofs.Common.{◌≡◌, true, false, cond, is_ok, Ok, Err, Result, sym, refl, ap, ◌∙◌, subst}
+use Rattle.std.proofs.Common.{◌≡◌, true, false, cond, is_ok, Ok, Err, Result, sym, ap, ◌∙◌, subst}
 use Rattle.automata.specs.Automaton.{Meaning, Sound}
 use Rattle.automata.specs.Measure.{Ops, Laws}
 use Rattle.automata.specs.Worth.{worth}

@@ -1,5 +1,5 @@
 -- The laws of yes and no.
-use Rattle.std.proofs.Common.{◌≡◌, Bool, true, false, ◌&&◌, ◌||◌, sym, refl, ap, ◌∙◌}
+use Rattle.std.proofs.Common.{◌≡◌, Bool, true, false, ◌&&◌, ◌||◌, sym, refl, ap}
 use Rattle.std.proofs.lemmas.Bool.{true≢false}
 use Rattle.automata.specs.declared.yes_no.YesNo.{YesNo}
 use Rattle.automata.specs.Measure.{Laws}

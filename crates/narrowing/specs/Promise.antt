@@ -1,5 +1,5 @@
 -- What is promised of worth: over every history of register calls, refused ones counted in, and over every sound automaton, in one measure.
-use Rattle.std.specs.Prelude.{◌≡◌, ℕ, ◌<◌, true, List, [], ◌∷◌, ◌++◌, is_ok, Ok}
+use Rattle.std.specs.Prelude.{◌≡◌, ℕ, true, List, [], ◌∷◌, ◌++◌, is_ok, Ok}
 use Rattle.tickets.specs.Ticket.{Ticket}
 use Rattle.automata.specs.Automaton.{Meaning, Sound}
 use Rattle.automata.specs.Reading.{Reading}

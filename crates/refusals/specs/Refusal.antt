@@ -1,18 +1,12 @@
 -- What each refusal says: its layer's word and its number, and for a refused node its place.
 use Rattle.std.specs.Prelude.{ℕ, List, Some, None, codes, Option}
-use Rattle.refusals.specs.declared.refusal.RegisterRefusal.{RegisterRefusal}
 use Rattle.refusals.specs.declared.refusal.RegisterRefusal.TheVariants.{ShortList, HighArity, FullForms, FullStates, NoState, NoForm, HighPoints, ChildCount, NoChild, FullState, NoRow, NoRoot}
-use Rattle.refusals.specs.declared.refusal.PileRefusal.{PileRefusal}
 use Rattle.refusals.specs.declared.refusal.PileRefusal.TheVariants.{ManyStates, ManyPlaces, LadderCount, LevelCount, HighLevel, BarForm, BarPosition}
-use Rattle.refusals.specs.declared.refusal.SettleRefusal.{SettleRefusal}
 use Rattle.refusals.specs.declared.refusal.SettleRefusal.TheVariants.{HasState, ManyReached, ManyRows, ForeignForm, HighRow}
 use Rattle.refusals.specs.declared.refusal.TicketRefusal.{TicketRefusal}
 use Rattle.refusals.specs.declared.refusal.TicketRefusal.TheVariants.{Empty, Long, Unknown, Few, Many}
-use Rattle.refusals.specs.declared.refusal.WorthRefusal.{WorthRefusal}
 use Rattle.refusals.specs.declared.refusal.WorthRefusal.TheVariants.{Start, Scratch}
-use Rattle.refusals.specs.declared.refusal.SearchRefusal.{SearchRefusal}
 use Rattle.refusals.specs.declared.refusal.SearchRefusal.TheVariants.{Start as SearchStart, Lines}
-use Rattle.refusals.specs.declared.refusal.SheetRefusal.{SheetRefusal}
 use Rattle.refusals.specs.declared.refusal.SheetRefusal.TheVariants.{Long as SheetLong, Byte, Kind, Fields, Name, Number, Given, NotGiven, Many as SheetMany}
 use Rattle.refusals.specs.declared.refusal.Refusal.{Refusal}
 use Rattle.refusals.specs.declared.refusal.Refusal.TheVariants.{Register, Pile, Settle, Ticket, Worth, Search, Sheet}

@@ -2,7 +2,7 @@
 ghost use Rattle.std.specs.Prelude.{◌≡◌, true, false, length, drop, is_ok};
 ghost use Rattle.tickets.specs.Checked.{ticket_of};
 ghost use Rattle.automata.specs.Table.{HoldsWorths, cells_needed, worth_answer};
-ghost use Rattle.ledger.specs.Ledger.{book as book-over};
+ghost use Rattle.ledger.specs.Ledger.{book as book_over};
 ghost use Rattle.register.specs.Held.{held_sealed, book_meaning};
 ghost use Rattle.register.specs.Soundness.{book_sound};
 ghost use Rattle.history.specs.Stands.{HoldsStanding, SumsStanding, AnswersStanding};
@@ -48,7 +48,7 @@ impl<'a> Automaton for Book<'a> {
 impl<'a> Sealed<'a> {
     // The book over the register.
     pub fn book(&self) -> Book<'_>
-        ensures meaning { book_meaning result ≡ book-over (held_sealed self.now) }
+        ensures meaning { book_meaning result ≡ book_over (held_sealed self.now) }
     {
         Book {
             rows: self.rows,
@@ -64,9 +64,9 @@ impl<'a> Sealed<'a> {
         start: usize,
         scratch: &mut [M],
     ) -> Result<M, WorthRefusal>
-        ensures answers { result ≡ worth_answer M.Measure.ops (book-over (held_sealed self.now)) (ticket_of ticket.now) start (length scratch.old) }
-        ensures cells { is_ok result ≡ true → HoldsWorths M.Measure.ops (book-over (held_sealed self.now)) (ticket_of ticket.now) scratch.new }
-        ensures beyond { is_ok result ≡ true → drop (cells_needed (book-over (held_sealed self.now)) (ticket_of ticket.now)) scratch.new ≡ drop (cells_needed (book-over (held_sealed self.now)) (ticket_of ticket.now)) scratch.old }
+        ensures answers { result ≡ worth_answer M.Measure.ops (book_over (held_sealed self.now)) (ticket_of ticket.now) start (length scratch.old) }
+        ensures cells { is_ok result ≡ true → HoldsWorths M.Measure.ops (book_over (held_sealed self.now)) (ticket_of ticket.now) scratch.new }
+        ensures beyond { is_ok result ≡ true → drop (cells_needed (book_over (held_sealed self.now)) (ticket_of ticket.now)) scratch.new ≡ drop (cells_needed (book_over (held_sealed self.now)) (ticket_of ticket.now)) scratch.old }
         ensures same { is_ok result ≡ false → scratch.new ≡ scratch.old }
         ensures value { AnswersStanding M.Measure.ops (held_sealed self.now) (ticket_of ticket.now) start result }
         ensures sums { SumsStanding M.Measure.ops (held_sealed self.now) }

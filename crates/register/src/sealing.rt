@@ -1,6 +1,6 @@
 // Making a register, sealing and reopening it.
 ghost use Rattle.std.specs.Prelude.{◌≡◌, true, false, [], length, replicate, is_ok, None};
-ghost use Rattle.ledger.specs.Ledger.{ledger, lent_answer, seal_answer, seal as sealing-call, reopen as reopening-call, step, Follows};
+ghost use Rattle.ledger.specs.Ledger.{ledger, lent_answer, seal_answer, seal as sealing_call, reopen as reopening_call, step, Follows};
 ghost use Rattle.register.specs.Held.{held, held_sealed, lent, lent_sealed};
 
 use crate::open::Open;
@@ -49,7 +49,7 @@ impl<'a> Open<'a> {
     // Whether the register can be sealed. A refusal here is a seal refused, which the history has and which changes nothing.
     pub fn can_seal(&self) -> Result<(), RegisterRefusal>
         ensures answers { result ≡ seal_answer (held self.now) }
-        ensures history { is_ok result ≡ false → Follows (held self.now) sealing-call (held self.now) }
+        ensures history { is_ok result ≡ false → Follows (held self.now) sealing_call (held self.now) }
     {
         match self.table.root {
             None => Err(RegisterRefusal::NoRoot),
@@ -60,8 +60,8 @@ impl<'a> Open<'a> {
     // Seals a register that passes the check.
     pub fn seal(self) -> Sealed<'a>
         requires { is_ok (seal_answer (held self)) ≡ true }
-        ensures steps { held_sealed result ≡ step (held self.entry) sealing-call }
-        ensures history { Follows (held self.entry) sealing-call (held_sealed result) }
+        ensures steps { held_sealed result ≡ step (held self.entry) sealing_call }
+        ensures history { Follows (held self.entry) sealing_call (held_sealed result) }
         ensures same { lent_sealed result ≡ lent self.entry }
     {
         let Open { rows, table } = self;
@@ -72,8 +72,8 @@ impl<'a> Open<'a> {
 impl<'a> Sealed<'a> {
     // Opens a sealed register for further entries.
     pub fn reopen(self) -> Open<'a>
-        ensures steps { held result ≡ step (held_sealed self.entry) reopening-call }
-        ensures history { Follows (held_sealed self.entry) reopening-call (held result) }
+        ensures steps { held result ≡ step (held_sealed self.entry) reopening_call }
+        ensures history { Follows (held_sealed self.entry) reopening_call (held result) }
         ensures same { lent result ≡ lent_sealed self.entry }
     {
         let Sealed { rows, table } = self;

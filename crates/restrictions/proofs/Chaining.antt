@@ -1,18 +1,17 @@
 -- Rules one after the other: each has one outcome, and so has the chain.
-use Rattle.std.proofs.Common.{◌≡◌, ℕ, ◌+◌, ◌<◌, ◌≤◌, Bool, true, false, cond, ltb, leb, List, [], ◌∷◌, ◌++◌, map, length, get_or, drop, is_ok, Some, None, Ok, Err, vec_items, Result, Vec, sym, refl, ap, ◌∙◌, subst, ap₂, append_assoc, append-nil, arith}
+use Rattle.std.proofs.Common.{◌≡◌, ℕ, ◌+◌, ◌<◌, ◌≤◌, Bool, true, false, cond, leb, List, [], ◌∷◌, ◌++◌, map, length, get_or, drop, is_ok, Ok, Err, vec_items, Result, Vec, sym, refl, ap, ◌∙◌, subst, ap₂, append_assoc, append-nil, arith}
 use Rattle.std.specs.declared.alloc.Global.{Global}
 use Rattle.std.proofs.lemmas.List.{length-append}
 use Rattle.std.proofs.lemmas.Bool.{true≢false, and_parts, leb-true, le-ltb, lt-leb}
 use Rattle.refusals.specs.declared.refusal.RegisterRefusal.{RegisterRefusal}
 use Rattle.refusals.specs.declared.refusal.RegisterRefusal.TheVariants.{HighArity, FullForms}
 use Rattle.refusals.specs.declared.refusal.PileRefusal.{PileRefusal}
-use Rattle.refusals.specs.declared.refusal.SettleRefusal.{SettleRefusal}
 use Rattle.tickets.specs.Forms.{each_at_most, forms_checked}
 use Rattle.automata.specs.Automaton.{Meaning, Sound}
 use Rattle.rules.specs.Ladder.{ladder, ladder_checked, ladder_has, ladder_to}
 use Rattle.rules.specs.Bar.{bar, bar_checked, bar_has, bar_to}
 use Rattle.rules.specs.Soundness.{ruled_sound, ladder_parts, bar_to_below}
-use Rattle.ledger.specs.Ledger.{Ledger, add_form, settle, seal, settle_answer, seal_answer, entry_answer, entered, entry_step, enter_all, accepted, step, book, blank_ledger, lent_answer}
+use Rattle.ledger.specs.Ledger.{Ledger, add_form, settle, seal, settle_answer, seal_answer, entered, entry_step, enter_all, step, book, blank_ledger, lent_answer}
 use Rattle.ledger.specs.Layout.{Good}
 use Rattle.ledger.specs.Soundness.{good_sound}
 use Rattle.product.specs.Product.{product, product_checked}
@@ -22,8 +21,7 @@ use Rattle.fields.specs.declared.fault.Stop.TheVariants.{Refused, Memory}
 use Rattle.fields.specs.Fault.{bind}
 use Rattle.listing.specs.Listing.{listing_answer, Answers}
 use Rattle.narrowing.specs.declared.narrowed.Narrowed.{Narrowed}
-use Rattle.narrowing.specs.Reduced.{Reduced}
-use Rattle.narrowing.specs.Narrows.{at_settle, Narrows}
+use Rattle.narrowing.specs.Narrows.{at_settle}
 use Rattle.narrowing.proofs.Reductions.{reduced_one}
 use Rattle.narrowing.proofs.Promised.{product_sound}
 use Rattle.narrowing.proofs.RestrictedWorth.{accepted_settle, reduced_sound}

@@ -1,6 +1,6 @@
 // Answering a sheet.
 ghost use Rattle.std.specs.Prelude.{◌≡◌, map, length};
-ghost use Rattle.refusals.specs.declared.refusal.Refusal.TheVariants.{Register as Of-register};
+ghost use Rattle.refusals.specs.declared.refusal.Refusal.TheVariants.{Register as OfRegister};
 ghost use Rattle.register.specs.Held.{held_sealed};
 ghost use Rattle.fields.specs.declared.fault.Stop.TheVariants.{Refused as IsRefused};
 ghost use Rattle.fields.specs.Fault.{of_refusal};
@@ -32,7 +32,7 @@ fn restricted(heap: Global, sealed: &Sealed<'_>, notes: &Notes) -> Result<House,
 
 // A refusal of the register that is of no line.
 fn no_line(refusal: RegisterRefusal) -> Stop
-    ensures { result ≡ IsRefused (of_refusal (Of-register refusal) 0) }
+    ensures { result ≡ IsRefused (of_refusal (OfRegister refusal) 0) }
 {
     Stop::Refused(Fault::new(Refusal::Register(refusal), 0))
 }

@@ -1,7 +1,7 @@
 // The restrictions of a sheet in order, and the step that each makes.
 ghost use Rattle.std.specs.Prelude.{◌≡◌, map, IfOk};
 ghost use Rattle.tickets.specs.Checked.{arities_of};
-ghost use Rattle.refusals.specs.declared.refusal.Refusal.TheVariants.{Pile as Of-pile};
+ghost use Rattle.refusals.specs.declared.refusal.Refusal.TheVariants.{Pile as OfPile};
 ghost use Rattle.fields.specs.declared.fault.Stop.TheVariants.{Refused as IsRefused};
 ghost use Rattle.fields.specs.Fault.{of_refusal};
 ghost use Rattle.ledger.specs.Ledger.{add_form, enter_all};
@@ -70,7 +70,7 @@ pub(crate) fn enter_forms(forms: &Forms<'_>, target: &mut Open<'_>)
 
 // A refusal of a pile that is of no line.
 fn refused_pile(refusal: PileRefusal) -> Stop
-    ensures { result ≡ IsRefused (of_refusal (Of-pile refusal) 0) }
+    ensures { result ≡ IsRefused (of_refusal (OfPile refusal) 0) }
 {
     Stop::Refused(Fault::new(Refusal::Pile(refusal), 0))
 }

@@ -1,8 +1,8 @@
 -- What ladder and bar accept.
-use Rattle.std.proofs.Common.{◌≡◌, ℕ, ◌-◌, ◌<◌, ◌≤◌, Bool, true, false, cond, not, ◌&&◌, ◌||◌, eqb, ltb, ◌⊎◌, List, get_or, sym, refl, ap, ◌∙◌, inl, inr, ⊎_elim, arith}
-use Rattle.std.proofs.lemmas.Bool.{ltb-true, lt-ltb, eqb-true, eq-eqb, or_cases, or_left, or_right, and_parts, and_from, cond-true, cases_lt, cases_eq, cases_Bool, both_ways, not-true, not_from_false}
+use Rattle.std.proofs.Common.{◌≡◌, ℕ, ◌-◌, ◌<◌, ◌≤◌, Bool, true, false, cond, not, ◌&&◌, ◌||◌, eqb, ltb, List, sym, refl, ap, ◌∙◌, ⊎_elim, arith}
+use Rattle.std.proofs.lemmas.Bool.{ltb-true, lt-ltb, eqb-true, eq-eqb, or_cases, or_left, or_right, and_parts, and_from, cond-true, cases_lt, cases_eq, both_ways, not-true}
 use Rattle.rules.specs.Ruled.{top_form}
-use Rattle.rules.specs.Ladder.{level, ladder, ladder_has, ladder_to, Falls, LadderExact}
+use Rattle.rules.specs.Ladder.{level, ladder, ladder_has, ladder_to, LadderExact}
 use Rattle.rules.specs.Bar.{bar, bar_has, bar_to, BarExact}
 use Rattle.rules.specs.Soundness.{bar_to_below}
 use Rattle.rules.proofs.Allowed.{accepts_nested}

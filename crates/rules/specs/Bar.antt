@@ -1,5 +1,5 @@
 -- The bar: no outer form has the inner form directly at a position.
-use Rattle.std.specs.Prelude.{◌≡◌, ℕ, Bool, cond, not, ◌&&◌, ◌||◌, ◌↔◌, List, length, Ok, Err, Result, ◌==◌, nat_lt, slice_index}
+use Rattle.std.specs.Prelude.{ℕ, Bool, cond, not, ◌&&◌, ◌||◌, ◌↔◌, List, length, Ok, Err, Result, ◌==◌, nat_lt, slice_index}
 use Rattle.refusals.specs.declared.refusal.PileRefusal.{PileRefusal}
 use Rattle.refusals.specs.declared.refusal.PileRefusal.TheVariants.{BarForm, BarPosition}
 use Rattle.tickets.specs.Ticket.{Ticket, Formed}

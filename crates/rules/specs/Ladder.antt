@@ -1,5 +1,5 @@
 -- The ladder: forms have levels, and no form of a level has one of a lower level, but for level 0, directly below it.
-use Rattle.std.specs.Prelude.{◌≡◌, ℕ, ◌-◌, ◌<◌, ◌≤◌, Bool, cond, ◌||◌, ◌↔◌, List, length, Ok, Err, Result, ◌==◌, nat_lt, slice_index}
+use Rattle.std.specs.Prelude.{ℕ, ◌-◌, ◌<◌, ◌≤◌, Bool, cond, ◌||◌, ◌↔◌, List, length, Ok, Err, Result, ◌==◌, nat_lt, slice_index}
 use Rattle.refusals.specs.declared.refusal.PileRefusal.{PileRefusal}
 use Rattle.refusals.specs.declared.refusal.PileRefusal.TheVariants.{LadderCount, LevelCount, HighLevel}
 use Rattle.tickets.specs.Forms.{each_at_most}

@@ -1,11 +1,11 @@
 -- Lemmas, and no definitions: the terms by which ladder and bar show that they are sound.
-use Rattle.std.specs.Prelude.{◌≡◌, ℕ, zero, suc, ◌-◌, ◌<◌, ◌≤◌, max, Bool, true, false, cond, ◌&&◌, ◌||◌, ◌⊎◌, List, [], ◌∷◌, length, is_ok, Some, None, Ok, Err, Option, ◌==◌, nat_lt, slice_index, refl}
+use Rattle.std.specs.Prelude.{◌≡◌, ℕ, zero, suc, ◌<◌, ◌≤◌, Bool, true, false, cond, ◌&&◌, ◌||◌, ◌⊎◌, List, length, is_ok, Some, None, Ok, Err, Option, ◌==◌, nat_lt, slice_index, refl}
 use Rattle.std.proofs.Common.{sym, ap, subst, ◌∙◌, inl, inr, ⊎_elim, arith}
-use Rattle.std.proofs.lemmas.Bool.{ltb-true, ltb-false, lt-ltb, leb-true, eqb-true, eqb-false, and_parts, and_from, or_parts, cond-true}
+use Rattle.std.proofs.lemmas.Bool.{ltb-true, ltb-false, lt-ltb, eqb-true, eqb-false, and_parts, and_from, or_parts}
 use Rattle.refusals.specs.declared.refusal.PileRefusal.{PileRefusal}
 use Rattle.refusals.specs.declared.refusal.PileRefusal.TheVariants.{LadderCount, LevelCount, HighLevel}
 use Rattle.tickets.specs.Forms.{each_at_most}
-use Rattle.automata.specs.Automaton.{Meaning, Production, Sound, Closed, Small, all_below}
+use Rattle.automata.specs.Automaton.{Production, Sound, Closed, Small, all_below}
 use Rattle.tickets.specs.Checked.{arities_of}
 use Rattle.tickets.proofs.FormList.{forms_few, at_most}
 use Rattle.rules.specs.declared.ladder.Ladder.{Ladder}

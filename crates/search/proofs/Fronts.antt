@@ -1,5 +1,5 @@
 -- A copy of the front of a list, element by element.
-use Rattle.std.proofs.Common.{◌≡◌, ℕ, ◌+◌, ◌<◌, List, [], ◌∷◌, ◌++◌, length, get_or, take, drop, set, sym, refl, ap, ◌∙◌, arith}
+use Rattle.std.proofs.Common.{◌≡◌, ℕ, ◌+◌, ◌<◌, List, [], ◌∷◌, ◌++◌, length, get_or, take, drop, set, sym, ap, ◌∙◌, arith}
 use Rattle.std.proofs.lemmas.List.{take_more, take_more_set, drop-set-lt, drop-drop}
 
 pub front_more : {X : Type 0} (xs ys zs : List X) (i : ℕ) (d : X) → i < length xs → i < length ys → (take i ys ≡ take i xs) × (drop i ys ≡ drop i zs)

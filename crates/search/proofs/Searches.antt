@@ -1,14 +1,11 @@
 -- What a search lists, and what its answer tells.
-use Rattle.std.proofs.Common.{◌≡◌, ℕ, zero, suc, ◌+◌, ◌-◌, ◌<◌, ◌≤◌, Bool, true, false, cond, ◌&&◌, ◌⊎◌, ◌↔◌, List, [], ◌∷◌, ◌++◌, map, length, get_or, take, drop, set, replicate, Some, Ok, Err, Decides, sym, refl, ap, ◌∙◌, subst, ap₂, inl, inr, ⊎_elim, arith, below_more}
+use Rattle.std.proofs.Common.{◌≡◌, ℕ, zero, suc, ◌+◌, ◌<◌, ◌≤◌, Bool, true, false, cond, ◌⊎◌, List, [], ◌∷◌, ◌++◌, length, take, set, replicate, Some, Ok, Err, sym, refl, ap, ◌∙◌, subst, ap₂, inl, inr, ⊎_elim, arith, below_more}
 use Rattle.std.specs.List.{AllByRecursion as All}
 use Rattle.std.proofs.ByRecursion.{All-weaker}
 use Rattle.std.proofs.lemmas.List.{take_more_set, length-set, map_push, get_or-replicate, get_or_past, length-replicate}
 use Rattle.std.proofs.lemmas.Bool.{both_ways, cases_eq, cases_lt, lt-ltb, le-ltb, true≢false}
-use Rattle.tickets.specs.Ticket.{Ticket}
 use Rattle.automata.specs.Automaton.{Meaning, Production, Sound}
 use Rattle.automata.specs.Reading.{Member}
-use Rattle.automata.specs.Measures.{yes_no}
-use Rattle.automata.specs.Worth.{worth}
 use Rattle.automata.proofs.Members.{member_cases, member_left, member_right}
 use Rattle.automata.proofs.Sampled.{yes_accepts}
 use Rattle.search.specs.declared.line.Line.{Line}
@@ -19,7 +16,7 @@ use Rattle.layers.specs.Marks.{Stuck}
 use Rattle.search.specs.Searched.{SearchTells}
 use Rattle.search.specs.Sweep.{line_states, Listed}
 use Rattle.layers.specs.Trim.{Productive}
-use Rattle.layers.proofs.Marking.{all_from_marked, mark_here, mark_other, marked_le, marked_lt, marked_more}
+use Rattle.layers.proofs.Marking.{all_from_marked, mark_here, mark_other, marked_lt, marked_more}
 use Rattle.layers.proofs.Productives.{usable_productive, place_below, stuck_productive}
 
 -- a further line, whose children stand on the lines before and whose state does not
@@ -53,7 +50,7 @@ module _ (m : Meaning) (sm : Sound m) where
   pub found_tells : (start n : ℕ) (ls : List Line) → 0 < n → Found m start ls → Tells m start n
   found_tells start n ls l f =
       let h = found_productive start ls f in
-      (λ e. absurd (omega arith), λ no-ticket. absurd (no-ticket h.0 ((yes_accepts m start h.0).1 h.1)))
+      (λ e. absurd (omega arith), λ no_ticket. absurd (no_ticket h.0 ((yes_accepts m start h.0).1 h.1)))
 
   -- stuck marks that miss the start tell that none is
   pub stuck_tells : (start : ℕ) (f : ℕ → Bool) → Stuck m f m.states → f start ≡ false → Tells m start 0

@@ -1,7 +1,7 @@
 // Searching for a ticket that a state accepts.
 ghost use Rattle.std.specs.Prelude.{◌≡◌, ℕ, ◌<◌, ◌≤◌, true, false, length, take, drop, is_ok, IfOk, Ok, Err, MatchOption, MatchResult};
 ghost use Rattle.layers.specs.Marks.{mark, Ready, Unready};
-ghost use Rattle.search.specs.Search.{search_checked, Tells, Leaf};
+ghost use Rattle.search.specs.Search.{search_checked, Found, Tells, Leaf};
 ghost use Rattle.search.specs.Searched.{Searched};
 ghost use Rattle.layers.specs.Marks.{Stuck};
 ghost use Rattle.search.specs.Sweep.{Listed};
@@ -76,7 +76,7 @@ pub fn search<A: Automaton>(
     lines: &mut [Line],
 ) -> Result<usize, SearchRefusal>
     ensures refused { MatchResult result (λ _. search_checked (A.Automaton.meaning automaton.now) start (length lines.old) ≡ Ok tt) (λ e. search_checked (A.Automaton.meaning automaton.now) start (length lines.old) ≡ Err e) }
-    ensures answers { IfOk result (λ n. n ≤ length lines.old) }
+    ensures answers { IfOk result (λ n. (n ≤ length lines.old) × (0 < n → Found (A.Automaton.meaning automaton.now) start (take n lines.new))) }
     ensures searched { IfOk result (λ n. Searched (A.Automaton.meaning automaton.now) start n (take n lines.new)) }
     ensures tells { IfOk result (λ n. Tells (A.Automaton.meaning automaton.now) start n) }
     ensures leaf { IfOk result (λ n. Leaf (A.Automaton.meaning automaton.now) start → n ≡ 1) }

@@ -9,7 +9,7 @@ use Rattle.automata.specs.Reading.{concat}
 use Rattle.register.specs.declared.open.Open.{Open}
 use Rattle.automata.specs.Rows.{renamed, rows_below, rows_of}
 use Rattle.ledger.specs.Reach.{reached, listed, reached_states, number}
-use Rattle.ledger.specs.Ledger.{Ledger, Entry, enter, settle, add_state, add_row, name_root, entry_step, enter_all, row_entries, settle_entries, settle_answer, accepted, step}
+use Rattle.ledger.specs.Ledger.{Ledger, Entry, enter, settle, add_state, add_row, name_root, entry_step, enter_all, row_entries, settle_answer, accepted, step}
 use Rattle.ledger.specs.Layout.{laid_out}
 use Rattle.register.specs.Held.{held}
 use Rattle.automata.proofs.RowLists.{all_rows}

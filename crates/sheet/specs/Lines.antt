@@ -13,7 +13,7 @@ use Rattle.fields.specs.Words.{all, plain, number_of}
 use Rattle.fields.specs.Tokens.{head, others}
 use Rattle.fields.specs.Names.{name_at, fresh_at, given_at, number_at, places_at}
 use Rattle.entries.specs.AtLine.{entering, at_bar, at_ticket}
-use Rattle.sheet.specs.Entered.{Entered, Barred, with_form, with_state, with_ledger, with_level, with_bar, with_ticket}
+use Rattle.sheet.specs.Entered.{Entered, with_form, with_state, with_ledger, with_level, with_bar, with_ticket}
 
 -- the fields fs after the kind are as many as they should be
 abbrev pub counted : {X : Type 0} → ℕ → ℕ → List (List ℕ) → Result X Fault → Result X Fault

@@ -1,10 +1,10 @@
 -- What each verdict of the check of a ticket says.
-use Rattle.std.proofs.Common.{◌≡◌, ℕ, zero, suc, ◌+◌, ◌-◌, ◌<◌, ◌≤◌, Bool, true, false, cond, ltb, ◌↔◌, List, [], ◌∷◌, length, get_or, take, drop, Ok, Err, Result, sym, refl, ap, ◌∙◌, subst, add-zero, zero-add, arith}
+use Rattle.std.proofs.Common.{◌≡◌, ℕ, suc, ◌+◌, ◌-◌, ◌<◌, ◌≤◌, Bool, true, false, cond, ltb, List, [], ◌∷◌, length, get_or, take, drop, Ok, Err, Result, sym, refl, ap, ◌∙◌, subst, add-zero, zero-add, arith}
 use Rattle.std.proofs.lemmas.List.{drop_more, drop_all, take_all}
 use Rattle.std.proofs.lemmas.Bool.{ltb-true, ltb-false, lt-ltb, cond-true}
 use Rattle.refusals.specs.declared.refusal.TicketRefusal.{TicketRefusal}
 use Rattle.refusals.specs.declared.refusal.TicketRefusal.TheVariants.{Empty, Long, Unknown, Few, Many}
-use Rattle.tickets.specs.Ticket.{Ticket, Tickets, nil, cons, count, postfix, Formed, FormedAll}
+use Rattle.tickets.specs.Ticket.{Tickets, nil, cons, count, FormedAll}
 use Rattle.tickets.specs.Check.{scan, ticket_checked, grown, forest, tree, Spells, CheckExact}
 use Rattle.tickets.proofs.Scans.{scan_unknown, scan_few, scan_many}
 use Rattle.tickets.proofs.Forests.{grown_count, grown_formed, forest_postfix}

@@ -1,12 +1,12 @@
 -- What passes the check of a ticket is one formed tree, and one formed tree passes.
-use Rattle.std.proofs.Common.{◌≡◌, ℕ, zero, suc, ◌+◌, ◌-◌, ◌<◌, ◌≤◌, Bool, true, false, cond, eqb, ltb, ◌↔◌, List, [], ◌∷◌, ◌++◌, length, get_or, take, drop, is_ok, Ok, Err, Result, sym, refl, ap, ◌∙◌, subst, ap₂, append_assoc, append-nil, add-zero, zero-add, arith, length-append}
-use Rattle.std.proofs.lemmas.List.{drop_more, take-append-drop, length-take-le}
-use Rattle.std.proofs.lemmas.Bool.{ltb-true, ltb-false, le-ltb, lt-ltb, cond-true, cond-false}
+use Rattle.std.proofs.Common.{◌≡◌, ℕ, suc, ◌+◌, ◌-◌, ◌<◌, ◌≤◌, Bool, true, false, cond, ltb, List, [], ◌∷◌, ◌++◌, length, get_or, take, drop, is_ok, Ok, Err, Result, sym, refl, ap, ◌∙◌, ap₂, append_assoc, append-nil, add-zero, zero-add, arith, length-append}
+use Rattle.std.proofs.lemmas.List.{take-append-drop, length-take-le}
+use Rattle.std.proofs.lemmas.Bool.{le-ltb, cond-false}
 use Rattle.refusals.specs.declared.refusal.TicketRefusal.{TicketRefusal}
-use Rattle.refusals.specs.declared.refusal.TicketRefusal.TheVariants.{Empty, Long, Unknown, Few, Many}
+use Rattle.refusals.specs.declared.refusal.TicketRefusal.TheVariants.{Long}
 use Rattle.tickets.specs.Ticket.{Ticket, Tickets, node, nil, cons, count, postfix, postfix_all, Formed, FormedAll}
-use Rattle.tickets.specs.Check.{scan, ticket_checked, join, first, rest, last, grown, forest, tree, Spells}
-use Rattle.tickets.proofs.Scans.{scan_unknown, scan_few, scan_more, scan_many, scan_one, scan_first, scan_last}
+use Rattle.tickets.specs.Check.{scan, ticket_checked, last, grown, forest, tree, Spells}
+use Rattle.tickets.proofs.Scans.{scan_more, scan_first, scan_last}
 use Rattle.tickets.proofs.Forests.{grown_count, grown_formed, forest_postfix, forest_of}
 
 abbrev Verdict : Type 0

@@ -1,5 +1,5 @@
 -- Rows of trees, and the trees that nodes leave.
-use Rattle.std.proofs.Common.{◌≡◌, ℕ, zero, suc, ◌+◌, ◌-◌, ◌<◌, ◌≤◌, List, [], ◌∷◌, ◌++◌, length, get_or, take, sym, refl, ap, ◌∙◌, subst, ap₂, append_assoc, append-nil, suc-add, zero-add, arith, length-append}
+use Rattle.std.proofs.Common.{◌≡◌, ℕ, zero, suc, ◌+◌, ◌-◌, ◌<◌, ◌≤◌, List, [], ◌∷◌, ◌++◌, length, get_or, sym, refl, ap, ◌∙◌, ap₂, append_assoc, append-nil, zero-add, arith}
 use Rattle.tickets.specs.Ticket.{Ticket, Tickets, node, nil, cons, count, postfix, postfix_all, Formed, FormedAll}
 use Rattle.tickets.specs.Check.{join, first, rest, last, grown, forest}
 

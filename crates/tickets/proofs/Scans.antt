@@ -1,10 +1,10 @@
 -- The steps of the postfix check.
-use Rattle.std.proofs.Common.{◌≡◌, ℕ, zero, suc, ◌+◌, ◌-◌, ◌<◌, ◌≤◌, Bool, true, false, cond, eqb, ltb, List, [], ◌∷◌, length, get_or, drop, Ok, Err, Result, sym, refl, ap, ◌∙◌, arith}
+use Rattle.std.proofs.Common.{◌≡◌, ℕ, ◌+◌, ◌-◌, ◌<◌, ◌≤◌, Bool, true, false, cond, ltb, List, [], ◌∷◌, length, get_or, drop, Ok, Err, Result, refl, ap, ◌∙◌, arith}
 use Rattle.std.proofs.lemmas.List.{drop_more, drop_all}
 use Rattle.std.proofs.lemmas.Bool.{ltb-true, ltb-false, le-ltb, lt-ltb, cond-true, cond-false}
 use Rattle.refusals.specs.declared.refusal.TicketRefusal.{TicketRefusal}
-use Rattle.refusals.specs.declared.refusal.TicketRefusal.TheVariants.{Empty, Long, Unknown, Few, Many}
-use Rattle.tickets.specs.Check.{scan, ticket_checked}
+use Rattle.refusals.specs.declared.refusal.TicketRefusal.TheVariants.{Unknown, Few, Many}
+use Rattle.tickets.specs.Check.{scan}
 
 abbrev Verdict : Type 0
 Verdict = Result (Unit {0}) TicketRefusal

@@ -6,17 +6,20 @@ ghost use Rattle.tickets.specs.Checked.{arities_of};
 use crate::forms::Forms;
 use refusals::refusal::RegisterRefusal;
 
+const HIGHEST_ARITY: u8 = 4;
+const MOST_FORMS: usize = 64;
+
 impl<'f> Forms<'f> {
     // Whether these arities are a list of forms, or why not.
     pub fn check(arities: &[u8]) -> Result<(), RegisterRefusal>
         ensures { result ≡ forms_checked arities.now }
     {
         for arity in arities {
-            if *arity > 4 {
+            if *arity > HIGHEST_ARITY {
                 return Err(RegisterRefusal::HighArity);
             }
         }
-        if arities.len() > 64 {
+        if arities.len() > MOST_FORMS {
             return Err(RegisterRefusal::FullForms);
         }
         Ok(())

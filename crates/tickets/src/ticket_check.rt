@@ -23,7 +23,8 @@ fn scanned(arities: &[u8], nodes: &[u16]) -> Result<(), TicketRefusal>
         }
         trees = trees - arity + 1;
     }
-    if trees > 1 {
+    let many = trees > 1;
+    if many {
         return Err(TicketRefusal::Many);
     }
     Ok(())

@@ -1,7 +1,7 @@
 -- The bytes of the lines of tickets, read by the book over a sealed register.
 use Rattle.std.specs.Prelude.{◌≡◌, ℕ, ◌+◌, Bool, cond, List, [], ◌∷◌, ◌++◌, Ok, Err, codes, Result}
 use Rattle.refusals.specs.declared.refusal.TicketRefusal.{TicketRefusal}
-use Rattle.refusals.specs.declared.refusal.Refusal.TheVariants.{Ticket as Of-ticket}
+use Rattle.refusals.specs.declared.refusal.Refusal.TheVariants.{Ticket as OfTicket}
 use Rattle.tickets.specs.Ticket.{Ticket}
 use Rattle.tickets.specs.Check.{ticket_checked, tree}
 use Rattle.automata.specs.declared.yes_no.YesNo.{YesNo}
@@ -35,7 +35,7 @@ tickets_text l k (ns ∷ rest) = ticket_text l k (tree l.arities ns) ++ tickets_
 -- a ticket that the forms refuse is a fault of no line and no field
 abbrev pub no_fault : Result (Unit {0}) TicketRefusal → Result (Unit {0}) Fault
 no_fault (Ok _) = Ok tt
-no_fault (Err e) = Err (of_refusal (Of-ticket e) 0)
+no_fault (Err e) = Err (of_refusal (OfTicket e) 0)
 
 abbrev pub ticket_passes : List ℕ → List ℕ → Result (Unit {0}) Fault
 ticket_passes arities ns = no_fault (ticket_checked arities ns)

@@ -2,8 +2,8 @@
 ghost use Rattle.std.specs.Prelude.{◌≡◌, ◌++◌, map, IfOk, vec_items, OnOk};
 ghost use Rattle.tickets.specs.Check.{tree};
 ghost use Rattle.tickets.specs.Checked.{arities_of, ticket_of};
-ghost use Rattle.automata.specs.Worth.{worth as worth-from};
-ghost use Rattle.ledger.specs.Ledger.{or_zero, book as book-over};
+ghost use Rattle.automata.specs.Worth.{worth as worth_from};
+ghost use Rattle.ledger.specs.Ledger.{or_zero, book as book_over};
 ghost use Rattle.register.specs.Held.{held_sealed};
 ghost use Rattle.verdicts.specs.Verdicts.{yes_word, verdict_text, ticket_text, tickets_text, ticket_passes, tickets_pass, Puts};
 
@@ -25,7 +25,7 @@ fn root_worth<M: Measure + Clone>(
     sealed: &Sealed<'_>,
     ticket: &CheckedTicket<'_, '_>,
 ) -> Result<M, AllocError>
-    ensures { IfOk result (λ w. w ≡ worth-from M.Measure.ops (book-over (held_sealed sealed.now)) (or_zero (held_sealed sealed.now).root) (ticket_of ticket.now)) }
+    ensures { IfOk result (λ w. w ≡ worth_from M.Measure.ops (book_over (held_sealed sealed.now)) (or_zero (held_sealed sealed.now).root) (ticket_of ticket.now)) }
 {
     let cells = ticket.size() * sealed.states();
     let mut scratch = vec![in heap; M::nothing(); cells]?;

@@ -1,4 +1,4 @@
-use Rattle.std.proofs.Common.{◌≡◌, ℕ, ◌+◌, ◌-◌, ◌*◌, ◌<◌, ◌≤◌, length, get_or, take, drop, sym, refl, ap, ◌∙◌, subst, mul-le-mul_right, arith}
+use Rattle.std.proofs.Common.{◌≡◌, ◌+◌, ◌-◌, ◌*◌, ◌<◌, ◌≤◌, length, take, drop, sym, refl, ap, ◌∙◌, subst, mul-le-mul_right, arith}
 use Rattle.tickets.specs.Ticket.{Ticket}
 use Rattle.tickets.specs.Check.{forest, rest}
 use Rattle.automata.specs.Table.{Line, prefix_tree}

@@ -1,4 +1,4 @@
-use Rattle.std.proofs.Common.{◌≡◌, ℕ, ◌≤◌, true, length, Option, sym, ap, ◌∙◌, subst, arith}
+use Rattle.std.proofs.Common.{◌≡◌, ℕ, true, length, Option, sym, ap, ◌∙◌, subst, arith}
 use Rattle.automata.specs.Automaton.{Production, production, all_below, Closed}
 use Rattle.automata.specs.Reading.{upto}
 use Rattle.automata.specs.Worth.{sum}

@@ -1,6 +1,4 @@
-use Rattle.std.proofs.Common.{sym, ap, ◌∙◌}
-use Rattle.register.specs.Held.{held}
-use Rattle.tickets.specs.Check.{ticket_checked}
+use Rattle.std.proofs.Common.{sym}
 use Rattle.entries.proofs.Taking.{node_low}
 use Rattle.entries.proofs.entering.check_ticket.Goals as goal
 

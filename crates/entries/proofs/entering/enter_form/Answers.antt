@@ -1,6 +1,6 @@
-use Rattle.ledger.specs.Ledger.{add_form, add_state, add_row, name_root, as_row}
+use Rattle.ledger.specs.Ledger.{add_form}
 use Rattle.register.specs.Held.{held}
-use Rattle.entries.proofs.Taking.{taken, refused, numbered, unnumbered_err}
+use Rattle.entries.proofs.Taking.{taken, refused}
 use Rattle.entries.proofs.entering.enter_form.Goals as goal
 
 pub returns-in-Ok : goal.returns-in-Ok

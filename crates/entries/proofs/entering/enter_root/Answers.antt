@@ -1,4 +1,4 @@
-use Rattle.ledger.specs.Ledger.{add_form, add_state, add_row, name_root, as_row}
+use Rattle.ledger.specs.Ledger.{name_root}
 use Rattle.register.specs.Held.{held}
 use Rattle.entries.proofs.Taking.{taken, refused, numbered, unnumbered_err}
 use Rattle.entries.proofs.entering.enter_root.Goals as goal

@@ -1,4 +1,4 @@
-use Rattle.std.proofs.Common.{◌≡◌, ◌+◌, length, get_or, drop, arith}
+use Rattle.std.proofs.Common.{◌+◌, length, get_or, drop, arith}
 use Rattle.std.proofs.lemmas.List.{at_drop_more, at_drop_all}
 use Rattle.fields.specs.Parts.{fields}
 use Rattle.fields.proofs.Cutting.{count_tab, count_other}

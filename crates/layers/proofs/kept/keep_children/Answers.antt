@@ -1,6 +1,6 @@
-use Rattle.std.proofs.Common.{◌≡◌, ℕ, ◌<◌, true, length, get_or, set, sym, refl, ap, ◌∙◌, subst, arith}
+use Rattle.std.proofs.Common.{◌<◌, true, length, set, sym, ap, ◌∙◌, arith}
 use Rattle.std.proofs.lemmas.List.{take_all}
-use Rattle.automata.specs.Automaton.{production, all_below}
+use Rattle.automata.specs.Automaton.{production}
 use Rattle.layers.specs.Marks.{mark, each_marked}
 use Rattle.layers.proofs.Marking.{child_at, all_below_at}
 use Rattle.layers.proofs.Growing.{keeping_same, keeping_more}

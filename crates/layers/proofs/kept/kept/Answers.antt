@@ -1,9 +1,6 @@
-use Rattle.std.proofs.Common.{◌≡◌, ℕ, ◌<◌, true, false, length, replicate, sym, refl, ap, ◌∙◌, subst, arith, length-set}
+use Rattle.std.proofs.Common.{false, replicate, ◌∙◌, length-set}
 use lib.ListN.{length-replicate}
-use Rattle.std.proofs.lemmas.List.{get_or-set_same}
-use Rattle.layers.specs.Marks.{mark, marked}
-use Rattle.layers.specs.Trim.{Kept, root}
-use Rattle.layers.proofs.Marking.{marked_le}
+use Rattle.layers.specs.Marks.{mark}
 use Rattle.layers.proofs.Growing.{grows_less, kept_start, kept_root, kept_marked}
 use Rattle.layers.proofs.kept.kept.Goals as goal
 

@@ -1,6 +1,5 @@
-use Rattle.std.proofs.Common.{◌≡◌, ℕ, ◌<◌, true, false, List, map, length, sym, refl, ap, ◌∙◌, subst, inl, inr, arith, length-set}
+use Rattle.std.proofs.Common.{◌<◌, true, List, map, length, sym, ap, ◌∙◌, subst, inl, inr, arith, length-set}
 use Rattle.std.proofs.lemmas.Bool.{both_ways}
-use Rattle.automata.specs.declared.row.Row.{Row}
 use Rattle.automata.specs.Automaton.{Production, production}
 use Rattle.layers.specs.Marks.{mark}
 use Rattle.layers.specs.Growth.{SomeReady}

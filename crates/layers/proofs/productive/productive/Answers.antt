@@ -1,8 +1,6 @@
-use Rattle.std.proofs.Common.{◌≡◌, ℕ, ◌<◌, true, false, length, sym, refl, ap, ◌∙◌, subst, arith}
+use Rattle.std.proofs.Common.{false}
 use lib.ListN.{length-replicate}
 use Rattle.std.proofs.lemmas.Bool.{both_ways}
-use Rattle.layers.specs.Marks.{mark, marked}
-use Rattle.layers.proofs.Marking.{marked_le}
 use Rattle.layers.proofs.Growing.{grows_less, none_marked, productive_decided}
 use Rattle.layers.proofs.productive.productive.Goals as goal
 

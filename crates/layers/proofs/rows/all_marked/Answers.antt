@@ -1,4 +1,4 @@
-use Rattle.std.proofs.Common.{◌≡◌, sym, refl, ◌∙◌, arith}
+use Rattle.std.proofs.Common.{sym, ◌∙◌, arith}
 use Rattle.automata.specs.Automaton.{production}
 use Rattle.layers.specs.Marks.{mark}
 use Rattle.layers.proofs.Marking.{row_marked_false, row_marked_true, all_marked_end}

@@ -1,4 +1,4 @@
-use Rattle.std.proofs.Common.{◌≡◌, ℕ, zero, suc, length, get_or, take, vec_items, sym, refl, ap, ◌∙◌, ap₂, arith, rules}
+use Rattle.std.proofs.Common.{◌≡◌, length, vec_items, rules}
 use Rattle.merge.specs.Merge.{at}
 use Rattle.merge.proofs.Renaming.{four}
 use Rattle.merge.proofs.merge.regrouped.Goals as goal

@@ -1,4 +1,4 @@
-use Rattle.std.proofs.Common.{◌≡◌, List, length, vec_items, vec_len, Vec, sym, ap, ◌∙◌, subst, arith, rules}
+use Rattle.std.proofs.Common.{List, length, vec_items, Vec, sym, ap, ◌∙◌, subst}
 use lib.ListN.{length-replicate}
 use Rattle.std.specs.declared.alloc.Global.{Global}
 use Rattle.std.proofs.lemmas.Slice.Eq.{slice_eq-Decides}

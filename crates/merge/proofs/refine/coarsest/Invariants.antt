@@ -1,4 +1,4 @@
-use Rattle.std.proofs.Common.{◌≡◌, ◌-◌, length, vec_items, vec_len}
+use Rattle.std.proofs.Common.{◌≡◌, ◌-◌, vec_items, vec_len}
 use Rattle.merge.specs.Merge.{at}
 use Rattle.merge.specs.Refine.{groups}
 use Rattle.merge.proofs.Merging.{Reached}

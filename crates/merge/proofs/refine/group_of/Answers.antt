@@ -1,5 +1,5 @@
 use Rattle.std.proofs.Common.{rules}
-use Rattle.std.proofs.lemmas.List.{get_or_past, get_or_read}
+use Rattle.std.proofs.lemmas.List.{get_or_past}
 use Rattle.merge.proofs.refine.group_of.Goals as goal
 
 pub returns-else-state-len : goal.returns-else-state-len

@@ -1,9 +1,9 @@
-use Rattle.std.proofs.Common.{◌≡◌, ℕ, ◌<◌, ◌≤◌, length, vec_items, sym, ap, ◌∙◌, subst, arith, length-take, rules}
+use Rattle.std.proofs.Common.{◌≡◌, length, vec_items, sym, ap, ◌∙◌, arith, length-take, rules}
 use lib.ListN.{length-map}
 use Rattle.automata.specs.Automaton.{Production, production}
 use Rattle.automata.specs.Rows.{renamed}
 use Rattle.merge.specs.Merge.{at}
-use Rattle.merge.specs.Refine.{code, decode}
+use Rattle.merge.specs.Refine.{decode}
 use Rattle.merge.proofs.Keys.{coded_key, decode_code, Small}
 use Rattle.merge.proofs.refine.key.Goals as goal
 

@@ -1,4 +1,4 @@
-use Rattle.std.proofs.Common.{List, map, vec_items, sym, ap, subst}
+use Rattle.std.proofs.Common.{List, map, vec_items, subst}
 use Rattle.automata.specs.declared.row.Row.{Row}
 use Rattle.automata.specs.Automaton.{production}
 use Rattle.automata.specs.Rows.{renamed}

@@ -1,6 +1,5 @@
-use Rattle.std.proofs.Common.{◌≡◌, ℕ, ◌<◌, ◌≤◌, [], length, vec_items, sym, ap, ◌∙◌, subst, arith, rules}
-use Rattle.std.proofs.lemmas.List.Sorted.{IsNonDecreasingBy-from_sort, length_permutation}
-use Rattle.automata.specs.Rows.{renamed}
+use Rattle.std.proofs.Common.{[], vec_items}
+use Rattle.std.proofs.lemmas.List.Sorted.{IsNonDecreasingBy-from_sort}
 use Rattle.merge.specs.Merge.{at}
 use Rattle.merge.proofs.Keying.{coded_more, coded_keys}
 use Rattle.merge.specs.Refine.{code_of}

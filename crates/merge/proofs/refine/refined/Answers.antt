@@ -1,4 +1,4 @@
-use Rattle.std.proofs.Common.{◌≡◌, ℕ, List, vec_items, Vec, sym, ap, ◌∙◌, subst₂, arith}
+use Rattle.std.proofs.Common.{ℕ, List, vec_items, Vec, subst₂, arith}
 use Rattle.std.specs.declared.alloc.Global.{Global}
 use Rattle.merge.specs.declared.row_key.RowKey.{RowKey}
 use Rattle.merge.specs.Refine.{LowestKeyed}

@@ -1,4 +1,4 @@
-use Rattle.std.proofs.Common.{◌≡◌, Equal, sym, refl, ◌∙◌, arith}
+use Rattle.std.proofs.Common.{Equal, sym, refl, arith}
 use Rattle.std.proofs.lemmas.Cmp.{ranked}
 use Rattle.merge.specs.Refine.{code_of}
 use Rattle.std.proofs.lemmas.Bool.{true≢false}

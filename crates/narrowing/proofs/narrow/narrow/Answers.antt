@@ -1,7 +1,6 @@
-use Rattle.std.proofs.Common.{◌≡◌, Err, vec_items, sym, refl, ap, ◌∙◌, subst}
+use Rattle.std.proofs.Common.{Err, vec_items, sym, refl, ap, ◌∙◌, subst}
 use Rattle.std.proofs.lemmas.Bool.{true≢false}
 use Rattle.std.proofs.lemmas.Result.{err_from_is_err_and}
-use Rattle.automata.specs.Automaton.{Meaning}
 use Rattle.layers.specs.Marks.{mark}
 use Rattle.layers.specs.Trim.{pruned}
 use Rattle.merge.specs.Merge.{at, merged}

@@ -1,6 +1,4 @@
-use Rattle.std.proofs.Common.{◌≡◌, Err, sym, refl, ap, ◌∙◌}
-use Rattle.automata.specs.Automaton.{Meaning}
-use Rattle.register.specs.Held.{held}
+use Rattle.std.proofs.Common.{Err, sym, refl, ap, ◌∙◌}
 use Rattle.settle.proofs.EntriesMade.{settle_refused}
 use Rattle.narrowing.specs.Narrows.{at_settle}
 use Rattle.narrowing.proofs.narrow.settled.Goals as goal

@@ -1,4 +1,4 @@
-use Rattle.std.proofs.Common.{◌≡◌, is_ok, Ok, Err, Result, sym, refl, ap, ◌∙◌, subst}
+use Rattle.std.proofs.Common.{◌≡◌, is_ok, Ok, Err, sym, refl, ap, ◌∙◌, subst}
 use Rattle.automata.specs.Automaton.{Sound}
 use Rattle.ledger.specs.Ledger.{book}
 use Rattle.register.specs.Held.{held, held_sealed, book_meaning}

@@ -1,5 +1,4 @@
-use Rattle.std.proofs.Common.{◌≡◌, map, length, vec_items, sym, refl, ap, ◌∙◌, subst}
-use Rattle.register.specs.Held.{held_sealed}
+use Rattle.std.proofs.Common.{map, length, vec_items, subst}
 use Rattle.sheet.specs.Held.{lists, barred, entered_by}
 use Rattle.restrictions.specs.House.{Restricted}
 use Rattle.restrictions.proofs.Chaining.{read_ok, read_told}

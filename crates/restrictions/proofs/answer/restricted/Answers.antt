@@ -1,8 +1,7 @@
-use Rattle.std.proofs.Common.{◌≡◌, List, map, Ok, Err, vec_items, sym, ap, ◌∙◌, subst, ap₂}
+use Rattle.std.proofs.Common.{◌≡◌, map, Ok, Err, vec_items, ap, ◌∙◌, subst, ap₂}
 use Rattle.std.proofs.lemmas.Result.{err_from_is_err_and}
 use Rattle.register.specs.Held.{held_sealed}
 use Rattle.sheet.specs.Held.{lists, barred}
-use Rattle.restrictions.specs.declared.rule.Rule.{Rule}
 use Rattle.restrictions.specs.Chain.{rules_of}
 use Rattle.restrictions.specs.House.{Lists, Only}
 use Rattle.restrictions.proofs.Chaining.{restricted_stops}

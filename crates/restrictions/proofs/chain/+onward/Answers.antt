@@ -1,8 +1,7 @@
-use Rattle.std.proofs.Common.{◌≡◌, ℕ, ◌-◌, ◌<◌, true, List, [], map, length, drop, Err, vec_items, sym, refl, ap, ◌∙◌, subst, arith}
+use Rattle.std.proofs.Common.{◌≡◌, ℕ, ◌-◌, true, List, [], map, length, drop, Err, vec_items, sym, refl, ap, ◌∙◌, subst, arith}
 use Rattle.std.proofs.lemmas.List.{take_all, length-drop}
 use Rattle.std.proofs.lemmas.Result.{err_from_is_err_and}
 use Rattle.std.proofs.lemmas.Bool.{eqb-true, eqb-false}
-use Rattle.tickets.specs.Checked.{arities_of}
 use Rattle.register.specs.declared.sealed.Sealed.{Sealed}
 use Rattle.ledger.specs.Ledger.{Ledger, add_form, enter_all, blank_ledger}
 use Rattle.ledger.specs.Layout.{laid_out, Good}

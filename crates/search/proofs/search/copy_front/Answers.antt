@@ -1,4 +1,4 @@
-use Rattle.std.proofs.Common.{◌≡◌, sym, refl, ap, ◌∙◌, arith}
+use Rattle.std.proofs.Common.{arith}
 use Rattle.search.proofs.Fronts.{front_more}
 use Rattle.search.proofs.search.copy_front.Goals as goal
 

@@ -1,5 +1,5 @@
-use Rattle.std.proofs.Common.{◌≡◌, ℕ, Option, sym, refl, ap, ◌∙◌, subst, arith}
-use Rattle.automata.specs.Automaton.{Production, production, Closed}
+use Rattle.std.proofs.Common.{sym, ◌∙◌, arith}
+use Rattle.automata.specs.Automaton.{production}
 use Rattle.layers.specs.Marks.{mark}
 use Rattle.layers.proofs.Readiness.{unready_row, unready_none, unready_all}
 use Rattle.search.proofs.search.ready.Goals as goal

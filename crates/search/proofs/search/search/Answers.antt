@@ -1,9 +1,8 @@
-use Rattle.std.proofs.Common.{◌≡◌, ℕ, ◌<◌, ◌≤◌, true, false, cond, ◌⊎◌, length, take, drop, sym, refl, ap, ◌∙◌, subst, inl, inr, ⊎_elim, arith, length-set}
+use Rattle.std.proofs.Common.{◌≡◌, length, take, drop, sym, refl, ap, ◌∙◌, subst, inl, inr, ⊎_elim, arith, length-set}
 use Rattle.std.proofs.lemmas.Bool.{true≢false}
-use Rattle.layers.specs.Marks.{mark, marked}
+use Rattle.layers.specs.Marks.{mark}
 use Rattle.search.specs.Search.{Found}
-use Rattle.search.specs.Sweep.{Listed}
-use Rattle.layers.proofs.Marking.{marked_lt, marked_le}
+use Rattle.layers.proofs.Marking.{marked_le}
 use Rattle.search.proofs.Searches.{listed_none, found_start, found_tells, stuck_tells, leaf_ready, count_below, checked_ok}
 use Rattle.search.proofs.search.search.Goals as goal
 
@@ -48,7 +47,7 @@ returns-in-Some g c =
     let found : Found m c.args.start (take _ c.copy_front.new.to) = subst (Found m c.args.start) (sym c.copy_front.ensures.front) (found_start m c.args.start c.loop-place.marks c.loop-place.order c.loop-place.count h c.in-Some.place _ (omega (arith, h.long_lines, b.0, b.1)) refl refl c.in-Some.ensures) in
     record {
       refused = checked_ok m c.args.start (length c.args.lines.now) (omega (arith, c.states-states.ensures)) (omega (arith, c.states-states.ensures));
-      answers = omega (arith, b.0, c.states-states.ensures);
+      answers = (omega (arith, b.0, c.states-states.ensures), λ _. found);
       searched = (λ _. found, λ z. absurd (omega arith));
       tells = found_tells m sm c.args.start _ _ (omega arith) found;
       leaf = λ leaf. ⊎_elim (λ (e : c.loop-place.count ≡ 0). omega arith) (λ no-leaf. absurd (no-leaf leaf)) c.loop-place.invariant.1;
@@ -63,7 +62,7 @@ returns-then-listed-count g c =
     let s = c.sweep-listed.ensures in
     record {
       refused = checked_ok m c.args.start (length c.args.lines.now) (omega (arith, c.states-states.ensures)) (omega (arith, c.states-states.ensures));
-      answers = omega arith;
+      answers = (omega arith, λ l. absurd (omega arith));
       searched = (λ l. absurd (omega arith), λ _. (mark c.sweep-listed.new.marks, s.stuck c.if-listed-count.true, s.listed.open_start));
       tells = stuck_tells m sm c.args.start (mark c.sweep-listed.new.marks) (s.stuck c.if-listed-count.true) s.listed.open_start;
       leaf = λ leaf. absurd (leaf_ready m (mark c.loop-place.marks) c.args.start c.in_default.ensures leaf);

@@ -1,5 +1,5 @@
-use Rattle.std.proofs.Common.{◌≡◌, ℕ, ◌<◌, ◌≤◌, Bool, false, ◌⊎◌, List, length, sym, refl, ap, ◌∙◌, subst, inl, inr, ⊎_elim, arith}
-use Rattle.layers.specs.Marks.{mark, marked}
+use Rattle.std.proofs.Common.{◌≡◌, ℕ, ◌<◌, Bool, false, List, length, refl, inl, inr, arith}
+use Rattle.layers.specs.Marks.{mark}
 use Rattle.search.specs.Sweep.{Listed}
 use Rattle.layers.proofs.Marking.{marked_lt}
 use Rattle.search.proofs.Searches.{swept_same, swept_more}

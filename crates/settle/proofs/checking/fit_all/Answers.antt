@@ -1,4 +1,4 @@
-use Rattle.std.proofs.Common.{◌≡◌, ℕ, ◌&&◌, leb, length, sym, ap, ◌∙◌, subst, arith}
+use Rattle.std.proofs.Common.{◌≡◌, ◌&&◌, leb, length, ap, ◌∙◌, arith}
 use Rattle.tickets.specs.Checked.{arities_of}
 use Rattle.layers.specs.Marks.{mark}
 use Rattle.automata.specs.Rows.{rows_of}

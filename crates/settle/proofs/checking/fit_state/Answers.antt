@@ -1,4 +1,4 @@
-use Rattle.std.proofs.Common.{◌≡◌, ◌&&◌, leb, sym, ap, ◌∙◌, subst, arith}
+use Rattle.std.proofs.Common.{◌&&◌, leb, sym, ap, ◌∙◌}
 use Rattle.automata.specs.Automaton.{production}
 use Rattle.tickets.specs.Checked.{arities_of}
 use Rattle.ledger.specs.Ledger.{has_form}

@@ -1,4 +1,4 @@
-use Rattle.std.proofs.Common.{◌≡◌, ◌<◌, ◌≤◌, length, sym, ap, ◌∙◌, subst, arith}
+use Rattle.std.proofs.Common.{length, sym, ap, ◌∙◌, arith}
 use Rattle.layers.specs.Marks.{mark}
 use Rattle.ledger.specs.Reach.{listed}
 use Rattle.register.specs.Held.{held}

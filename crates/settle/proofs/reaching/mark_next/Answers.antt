@@ -1,5 +1,5 @@
-use Rattle.std.proofs.Common.{◌≡◌, ℕ, ◌+◌, Bool, true, ◌⊎◌, List, length, None, sym, ap, ◌∙◌, subst, arith}
-use Rattle.automata.specs.Automaton.{production, shown}
+use Rattle.std.proofs.Common.{◌+◌, length, sym, subst, arith}
+use Rattle.automata.specs.Automaton.{production}
 use Rattle.layers.proofs.Readiness.{row_within}
 use Rattle.settle.proofs.Spreading.{Spread, spread_none, spread_row}
 use Rattle.settle.proofs.reaching.mark_next.Goals as goal

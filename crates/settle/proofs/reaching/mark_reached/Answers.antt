@@ -1,6 +1,5 @@
-use Rattle.std.proofs.Common.{◌≡◌, false, length, replicate, sym, ap, ◌∙◌, subst, arith}
+use Rattle.std.proofs.Common.{false, replicate, arith}
 use lib.ListN.{length-replicate}
-use Rattle.layers.specs.Marks.{mark, marked}
 use Rattle.layers.proofs.Growing.{none_marked}
 use Rattle.settle.proofs.Spreading.{all_asked, reaching_start, reaching_more, asked_less}
 use Rattle.settle.proofs.reaching.mark_reached.Goals as goal

@@ -1,4 +1,3 @@
-use Rattle.std.proofs.Common.{sym}
 use Rattle.layers.specs.Marks.{mark}
 use Rattle.settle.proofs.Totals.{total_add, total_skip}
 use Rattle.settle.proofs.sizes.count_all.Goals as goal

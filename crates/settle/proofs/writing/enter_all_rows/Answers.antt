@@ -1,4 +1,4 @@
-use Rattle.std.proofs.Common.{◌≡◌, ℕ, get_or, sym, ap, ◌∙◌, subst}
+use Rattle.std.proofs.Common.{ℕ, get_or, ap, ◌∙◌}
 use Rattle.layers.specs.Marks.{mark}
 use Rattle.register.specs.Held.{held}
 use Rattle.automata.specs.Rows.{rows_of}

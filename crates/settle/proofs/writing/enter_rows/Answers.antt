@@ -1,4 +1,4 @@
-use Rattle.std.proofs.Common.{◌≡◌, ℕ, length, get_or, sym, ap, ◌∙◌, subst, arith}
+use Rattle.std.proofs.Common.{ℕ, length, get_or, sym, ap, ◌∙◌, arith}
 use Rattle.automata.specs.Automaton.{production}
 use Rattle.layers.proofs.Readiness.{row_within}
 use Rattle.register.specs.Held.{held}

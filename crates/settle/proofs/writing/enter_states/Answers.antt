@@ -1,4 +1,4 @@
-use Rattle.std.proofs.Common.{◌≡◌, sym, ap, ◌∙◌, subst}
+use Rattle.std.proofs.Common.{ap, ◌∙◌}
 use Rattle.layers.specs.Marks.{mark}
 use Rattle.register.specs.Held.{held}
 use Rattle.ledger.specs.Ledger.{add_state}

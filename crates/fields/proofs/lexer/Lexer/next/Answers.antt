@@ -1,4 +1,4 @@
-use Rattle.std.proofs.Common.{sym, refl, ap, ◌∙◌, rules}
+use Rattle.std.proofs.Common.{sym, ap, ◌∙◌}
 use Rattle.fields.specs.Parts.{left, seen}
 use Rattle.fields.specs.Tokens.{first, others}
 use Rattle.fields.proofs.Cutting.{lexed}

@@ -1,8 +1,5 @@
-use Rattle.std.proofs.Common.{◌≡◌, ℕ, Bool, false, List, length, vec_items, Decides, Vec, sym, refl, ap, ◌∙◌, subst, rules}
-use Rattle.std.specs.declared.alloc.Global.{Global}
-use Rattle.automata.specs.declared.row.Row.{Row}
+use Rattle.std.proofs.Common.{ℕ, Bool, List, vec_items, Decides, sym, subst}
 use Rattle.layers.specs.Marks.{mark}
-use Rattle.layers.specs.Rows.{TableTo}
 use Rattle.layers.specs.Trim.{Productive, Kept}
 use Rattle.layers.proofs.Trims.{pruned_trimmed}
 use Rattle.layers.proofs.trim.Trim.new.Goals as goal

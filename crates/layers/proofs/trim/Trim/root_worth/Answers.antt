@@ -1,4 +1,4 @@
-use Rattle.std.proofs.Common.{◌≡◌, ℕ, length, vec_items, sym, refl, ap, ◌∙◌}
+use Rattle.std.proofs.Common.{ℕ, length, vec_items, ap, ◌∙◌}
 use Rattle.tickets.specs.Checked.{ticket_of}
 use Rattle.automata.specs.Table.{worth_answer}
 use Rattle.layers.specs.Marks.{mark}

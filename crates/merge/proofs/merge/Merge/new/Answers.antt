@@ -1,4 +1,4 @@
-use Rattle.std.proofs.Common.{vec_items, sym, refl, ◌∙◌}
+use Rattle.std.proofs.Common.{vec_items, sym, ◌∙◌}
 use Rattle.merge.proofs.Refining.{low}
 use Rattle.merge.proofs.merge.Merge.new.Goals as goal
 

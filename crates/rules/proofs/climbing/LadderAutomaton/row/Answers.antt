@@ -1,4 +1,4 @@
-use Rattle.std.proofs.Common.{◌≡◌, ℕ, ◌<◌, ◌≤◌, List, [], ◌∷◌, length, ap, arith}
+use Rattle.std.proofs.Common.{ℕ, ◌<◌, ◌≤◌, [], ◌∷◌, length, ap, arith}
 use Rattle.tickets.specs.Checked.{arities_of}
 use Rattle.rules.specs.Ladder.{level, ladder_has, ladder_to}
 use Rattle.rules.proofs.Accepted.{level_has}

@@ -1,4 +1,4 @@
-use Rattle.std.proofs.Common.{sym, rules}
+use Rattle.std.proofs.Common.{rules}
 use Rattle.fields.proofs.Followed.{names_more}
 use Rattle.sheet.proofs.notes.Notes.form_line.Goals as goal
 

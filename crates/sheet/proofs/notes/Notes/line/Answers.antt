@@ -1,10 +1,9 @@
-use Rattle.std.proofs.Common.{◌≡◌, ℕ, true, List, length, Result, sym, ap, ◌∙◌, subst, arith}
+use Rattle.std.proofs.Common.{◌≡◌, Result, sym, ap, ◌∙◌, subst}
 use Rattle.fields.specs.declared.fault.Fault.{Fault}
 use Rattle.fields.specs.Fault.{Steps}
-use Rattle.fields.specs.Parts.{fields}
 use Rattle.fields.specs.Tokens.{word, others, to_read}
 use Rattle.sheet.specs.Entered.{Entered}
-use Rattle.sheet.specs.Lines.{by_kind, line_entered, form_line, state_line, row_line, root_line, level_line, bar_line, ticket_line}
+use Rattle.sheet.specs.Lines.{line_entered, form_line, state_line, row_line, root_line, level_line, bar_line, ticket_line}
 use Rattle.sheet.specs.Held.{entered_by}
 use Rattle.sheet.proofs.Noted.{line_by_kind, kind_spelled}
 use Rattle.sheet.proofs.notes.Notes.line.Goals as goal

@@ -1,4 +1,4 @@
-use Rattle.std.proofs.Common.{◌≡◌, ℕ, ◌+◌, List, length, ap, ◌∙◌, le-leb}
+use Rattle.std.proofs.Common.{ℕ, ◌+◌, List, length, ap, ◌∙◌, le-leb}
 use Rattle.std.proofs.lemmas.Bool.{cond-true}
 use Rattle.fields.specs.Parts.{lines}
 use Rattle.sheet.specs.Lines.{lines_entered}

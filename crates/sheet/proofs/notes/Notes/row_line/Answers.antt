@@ -1,4 +1,4 @@
-use Rattle.std.proofs.Common.{◌≡◌, length, Err, ap, arith, rules}
+use Rattle.std.proofs.Common.{◌≡◌, Err, arith, rules}
 use Rattle.fields.specs.Tokens.{to_read}
 use Rattle.fields.proofs.Followed.{refuses}
 use Rattle.sheet.specs.Lines.{row_line}
