@@ -8,8 +8,9 @@ use automata::row::Row;
 use fields::fault::{Fault, Stop};
 use house::answer::answer;
 use house::house::House;
-use reasons::reason::reason;
+use reasons::sentence::sentence;
 use std::io::{Read, Write};
+use std::process::ExitCode;
 use text::faults::fault_line;
 
 fn report_house(rt: &HostRuntime, house: &House) -> anyhow::Result<()> {
@@ -28,22 +29,14 @@ fn report_house(rt: &HostRuntime, house: &House) -> anyhow::Result<()> {
 }
 
 fn report_fault(rt: &HostRuntime, fault: Fault) -> anyhow::Result<()> {
-    let text = fault_line(rt.alloc(), fault)?;
-    rt.stdout().write_all(&text)?;
-    let why = reason(fault.refusal);
-    let line = fault.line;
-    let field = fault.field;
-    if line == 0 {
-        eprintln!(rt; "refused: {why}")?;
-    } else if field == 0 {
-        eprintln!(rt; "refused at line {line}: {why}")?;
-    } else {
-        eprintln!(rt; "refused at line {line}, field {field}: {why}")?;
-    }
-    Err(anyhow!("the sheet is refused"))
+    let line = fault_line(rt.alloc(), fault)?;
+    rt.stdout().write_all(&line)?;
+    let why = sentence(rt.alloc(), fault)?;
+    rt.stderr().write_all(why.as_bytes())?;
+    Ok(())
 }
 
-fn main(rt: HostRuntime) -> anyhow::Result<()> {
+fn main(rt: HostRuntime) -> anyhow::Result<ExitCode> {
     let heap = rt.alloc();
     let mut sheet = Vec::new(heap);
     rt.stdin().read_to_end(&mut sheet)?;
@@ -57,9 +50,13 @@ fn main(rt: HostRuntime) -> anyhow::Result<()> {
     match answer(heap, &mut rows, &sheet) {
         Ok(house) => {
             rt.stdout().write_all(&house.listing)?;
-            report_house(&rt, &house)
+            report_house(&rt, &house)?;
+            Ok(ExitCode::SUCCESS)
         }
-        Err(Stop::Refused(fault)) => report_fault(&rt, fault),
+        Err(Stop::Refused(fault)) => {
+            report_fault(&rt, fault)?;
+            Ok(ExitCode::FAILURE)
+        }
         Err(Stop::Memory) => Err(anyhow!("there is not enough memory")),
     }
 }

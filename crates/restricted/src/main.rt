@@ -9,6 +9,7 @@ use fields::fault::{Fault, Stop};
 use reasons::sentence::sentence;
 use restrictions::answer::answer;
 use std::io::{Read, Write};
+use std::process::ExitCode;
 use text::faults::fault_line;
 
 fn report_fault(rt: &HostRuntime, fault: Fault) -> anyhow::Result<()> {
@@ -16,10 +17,10 @@ fn report_fault(rt: &HostRuntime, fault: Fault) -> anyhow::Result<()> {
     rt.stdout().write_all(&line)?;
     let why = sentence(rt.alloc(), fault)?;
     rt.stderr().write_all(why.as_bytes())?;
-    Err(anyhow!("the sheet is refused"))
+    Ok(())
 }
 
-fn main(rt: HostRuntime) -> anyhow::Result<()> {
+fn main(rt: HostRuntime) -> anyhow::Result<ExitCode> {
     let heap = rt.alloc();
     let mut sheet = Vec::new(heap);
     rt.stdin().read_to_end(&mut sheet)?;
@@ -34,9 +35,12 @@ fn main(rt: HostRuntime) -> anyhow::Result<()> {
         Ok(house) => {
             rt.stdout().write_all(&house.listing)?;
             rt.stderr().write_all(house.report.as_bytes())?;
-            Ok(())
+            Ok(ExitCode::SUCCESS)
         }
-        Err(Stop::Refused(fault)) => report_fault(&rt, fault),
+        Err(Stop::Refused(fault)) => {
+            report_fault(&rt, fault)?;
+            Ok(ExitCode::FAILURE)
+        }
         Err(Stop::Memory) => Err(anyhow!("there is not enough memory")),
     }
 }

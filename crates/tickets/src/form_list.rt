@@ -7,6 +7,7 @@ use crate::forms::Forms;
 use refusals::refusal::RegisterRefusal;
 
 const HIGHEST_ARITY: u8 = 4;
+
 const MOST_FORMS: usize = 64;
 
 impl<'f> Forms<'f> {

@@ -15,7 +15,7 @@ returns-in-F c =
     let kind : 70 ≡ _ = sym c.in-F.is ∙ kind_spelled bs (word c.next.result) c.kind.result (c.next.ensures.value ∙ ap Rattle.fields.specs.Tokens.first c.new-lexer.ensures) c.kind.ensures in
     let told : line_entered c.args.line e bs ≡ form_line c.args.line e (to_read c.next.new.self) =
     line_by_kind c.args.line e bs 70 (to_read c.next.new.self) c.if-bytes-gt32768.false (sym c.if-not-is_plain.ensures) kind (c.next.ensures.after ∙ ap others c.new-lexer.ensures) in
-    subst (λ (s : Result Entered Fault). Steps s e c.form_line.result (entered_by c.form_line.new.self c.form_line.new.register)) (sym told) c.form_line.ensures
+    rw told (assumption c)
 
 pub returns-in-S : goal.returns-in-S
 returns-in-S c =
@@ -24,7 +24,7 @@ returns-in-S c =
     let kind : 83 ≡ _ = sym c.in-S.is ∙ kind_spelled bs (word c.next.result) c.kind.result (c.next.ensures.value ∙ ap Rattle.fields.specs.Tokens.first c.new-lexer.ensures) c.kind.ensures in
     let told : line_entered c.args.line e bs ≡ state_line c.args.line e (to_read c.next.new.self) =
     line_by_kind c.args.line e bs 83 (to_read c.next.new.self) c.if-bytes-gt32768.false (sym c.if-not-is_plain.ensures) kind (c.next.ensures.after ∙ ap others c.new-lexer.ensures) in
-    subst (λ (s : Result Entered Fault). Steps s e c.state_line.result (entered_by c.state_line.new.self c.state_line.new.register)) (sym told) c.state_line.ensures
+    rw told (assumption c)
 
 pub returns-in-R : goal.returns-in-R
 returns-in-R c =
@@ -33,7 +33,7 @@ returns-in-R c =
     let kind : 82 ≡ _ = sym c.in-R.is ∙ kind_spelled bs (word c.next.result) c.kind.result (c.next.ensures.value ∙ ap Rattle.fields.specs.Tokens.first c.new-lexer.ensures) c.kind.ensures in
     let told : line_entered c.args.line e bs ≡ row_line c.args.line e (to_read c.next.new.self) =
     line_by_kind c.args.line e bs 82 (to_read c.next.new.self) c.if-bytes-gt32768.false (sym c.if-not-is_plain.ensures) kind (c.next.ensures.after ∙ ap others c.new-lexer.ensures) in
-    subst (λ (s : Result Entered Fault). Steps s e c.row_line.result (entered_by c.row_line.new.self c.row_line.new.register)) (sym told) c.row_line.ensures
+    rw told (assumption c)
 
 pub returns-in-G : goal.returns-in-G
 returns-in-G c =
@@ -42,7 +42,7 @@ returns-in-G c =
     let kind : 71 ≡ _ = sym c.in-G.is ∙ kind_spelled bs (word c.next.result) c.kind.result (c.next.ensures.value ∙ ap Rattle.fields.specs.Tokens.first c.new-lexer.ensures) c.kind.ensures in
     let told : line_entered c.args.line e bs ≡ root_line c.args.line e (to_read c.next.new.self) =
     line_by_kind c.args.line e bs 71 (to_read c.next.new.self) c.if-bytes-gt32768.false (sym c.if-not-is_plain.ensures) kind (c.next.ensures.after ∙ ap others c.new-lexer.ensures) in
-    subst (λ (s : Result Entered Fault). Steps s e c.root_line.result (entered_by c.root_line.new.self c.root_line.new.register)) (sym told) c.root_line.ensures
+    rw told (assumption c)
 
 pub returns-in-L : goal.returns-in-L
 returns-in-L c =
@@ -51,7 +51,7 @@ returns-in-L c =
     let kind : 76 ≡ _ = sym c.in-L.is ∙ kind_spelled bs (word c.next.result) c.kind.result (c.next.ensures.value ∙ ap Rattle.fields.specs.Tokens.first c.new-lexer.ensures) c.kind.ensures in
     let told : line_entered c.args.line e bs ≡ level_line c.args.line e (to_read c.next.new.self) =
     line_by_kind c.args.line e bs 76 (to_read c.next.new.self) c.if-bytes-gt32768.false (sym c.if-not-is_plain.ensures) kind (c.next.ensures.after ∙ ap others c.new-lexer.ensures) in
-    subst (λ (s : Result Entered Fault). Steps s e c.level_line.result (entered_by c.level_line.new.self c.level_line.new.register)) (sym told) c.level_line.ensures
+    rw told (assumption c)
 
 pub returns-in-B : goal.returns-in-B
 returns-in-B c =
@@ -60,7 +60,7 @@ returns-in-B c =
     let kind : 66 ≡ _ = sym c.in-B.is ∙ kind_spelled bs (word c.next.result) c.kind.result (c.next.ensures.value ∙ ap Rattle.fields.specs.Tokens.first c.new-lexer.ensures) c.kind.ensures in
     let told : line_entered c.args.line e bs ≡ bar_line c.args.line e (to_read c.next.new.self) =
     line_by_kind c.args.line e bs 66 (to_read c.next.new.self) c.if-bytes-gt32768.false (sym c.if-not-is_plain.ensures) kind (c.next.ensures.after ∙ ap others c.new-lexer.ensures) in
-    subst (λ (s : Result Entered Fault). Steps s e c.bar_line.result (entered_by c.bar_line.new.self c.bar_line.new.register)) (sym told) c.bar_line.ensures
+    rw told (assumption c)
 
 pub returns-in-T : goal.returns-in-T
 returns-in-T c =
@@ -69,4 +69,4 @@ returns-in-T c =
     let kind : 84 ≡ _ = sym c.in-T.is ∙ kind_spelled bs (word c.next.result) c.kind.result (c.next.ensures.value ∙ ap Rattle.fields.specs.Tokens.first c.new-lexer.ensures) c.kind.ensures in
     let told : line_entered c.args.line e bs ≡ ticket_line c.args.line e (to_read c.next.new.self) =
     line_by_kind c.args.line e bs 84 (to_read c.next.new.self) c.if-bytes-gt32768.false (sym c.if-not-is_plain.ensures) kind (c.next.ensures.after ∙ ap others c.new-lexer.ensures) in
-    subst (λ (s : Result Entered Fault). Steps s e c.ticket_line.result (entered_by c.ticket_line.new.self c.ticket_line.new.register)) (sym told) c.ticket_line.ensures
+    rw told (assumption c)
