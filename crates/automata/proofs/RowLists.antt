@@ -1,7 +1,7 @@
 -- The worth of a node over the list of its state's rows.
 use Rattle.std.proofs.Common.{◌≡◌, ℕ, zero, suc, List, [], ◌∷◌, ◌++◌, Some, None, Option, sym, refl, ◌∙◌, ap₂}
 use Rattle.std.specs.Option.{option_to_list}
-use Rattle.std.specs.List.{AllByRecursion as All}
+use Rattle.std.specs.List.{AllByRecursion}
 use Rattle.tickets.specs.Ticket.{Tickets, node}
 use Rattle.automata.specs.Automaton.{Meaning, Production}
 use Rattle.automata.specs.Reading.{upto}
@@ -11,21 +11,21 @@ use Rattle.automata.specs.Rows.{rows_below, rows_of}
 use Rattle.automata.proofs.Sums.{sum_append}
 use Rattle.automata.proofs.ByRows.{worth_by_rows}
 
-pub all_append : {A : Type 0} (P : A → Type 0) (xs ys : List A) → All P xs → All P ys → All P (xs ++ ys)
+pub all_append : {A : Type 0} (P : A → Type 0) (xs ys : List A) → AllByRecursion P xs → AllByRecursion P ys → AllByRecursion P (xs ++ ys)
 all_append P [] ys h k = k
 all_append P (x ∷ xs) ys h k = (h.0, all_append P xs ys h.1 k)
 
 -- what holds of every row of a state
-pub all_rows : (P : Production → Type 0) (m : Meaning) (q : ℕ) → ((k : ℕ) (p : Production) → m.row q k ≡ Some p → P p) → (n : ℕ) → All P (rows_below m q n)
+pub all_rows : (P : Production → Type 0) (m : Meaning) (q : ℕ) → ((k : ℕ) (p : Production) → m.row q k ≡ Some p → P p) → (n : ℕ) → AllByRecursion P (rows_below m q n)
 all_rows P m q h zero = tt
 all_rows P m q h (suc n) = all_append P (rows_below m q n) (option_to_list (m.row q n)) (all_rows P m q h n) (one (m.row q n) refl)
   where
-    one : (r : Option Production) → m.row q n ≡ r → All P (option_to_list r)
+    one : (r : Option Production) → m.row q n ≡ r → AllByRecursion P (option_to_list r)
     one None e = tt
     one (Some p) e = (h n p e, tt)
 
 module _ {M : Type 0} {o : Ops M} (laws : Laws o) where
-  pub sum_all : {A : Type 0} (P : A → Type 0) (f g : A → M) → ((a : A) → P a → f a ≡ g a) → (xs : List A) → All P xs → sum o f xs ≡ sum o g xs
+  pub sum_all : {A : Type 0} (P : A → Type 0) (f g : A → M) → ((a : A) → P a → f a ≡ g a) → (xs : List A) → AllByRecursion P xs → sum o f xs ≡ sum o g xs
   sum_all P f g e [] h = refl
   sum_all P f g e (x ∷ xs) h = ap₂ o.plus (e x h.0) (sum_all P f g e xs h.1)
 

@@ -1,7 +1,7 @@
 -- Laws of lines and fields.
 use Rattle.std.proofs.Common.{◌≡◌, ℕ, ◌+◌, ◌<◌, Bool, true, false, cond, not, eqb, List, [], ◌∷◌, length, is_some, Some, None, Option, sym, refl, ap, ◌∙◌, arith, Bor, eq-eqb, ne_eqb, eqb-true}
 use borrow.Author.Tests.{eqb-false}
-use Rattle.std.specs.List.{AllByRecursion as All}
+use Rattle.std.specs.List.{AllByRecursion}
 use Rattle.std.proofs.lemmas.Bool.{not-true, not-false}
 use Rattle.fields.specs.Parts.{grow, lines, fields, before, after, seen, left, ended, closed, tabbed, Lacks, AllParted}
 use Rattle.fields.specs.Tokens.{classed, first, others}
@@ -45,23 +45,23 @@ lines_join (b ∷ c ∷ bs) = at (lines_join (c ∷ bs)) (eqb b 10) refl
     at h true e = (λ i. sym (eqb-true b 10 e) i ∷ h i)
     at h false e = let s = lines_some c bs in ended_grow b _ s.0 s.1 s.2 ∙ ap (λ l. b ∷ l) h
 
-lacks_grow : (s b : ℕ) (ls : List (List ℕ)) → (b ≡ s → ⊥) → All (Lacks s) ls → All (Lacks s) (grow b ls)
+lacks_grow : (s b : ℕ) (ls : List (List ℕ)) → (b ≡ s → ⊥) → AllByRecursion (Lacks s) ls → AllByRecursion (Lacks s) (grow b ls)
 lacks_grow s b [] n a = ((n, tt), tt)
 lacks_grow s b (p ∷ ps) n a = ((n, a.0), a.1)
 
-pub lines_lack : (bs : List ℕ) → All (Lacks 10) (lines bs)
+pub lines_lack : (bs : List ℕ) → AllByRecursion (Lacks 10) (lines bs)
 lines_lack [] = tt
 lines_lack (b ∷ bs) = at (lines_lack bs) (eqb b 10) refl
   where
-    at : All (Lacks 10) (lines bs) → (t : Bool) → eqb b 10 ≡ t → All (Lacks 10) (cond t ([] ∷ lines bs) (grow b (lines bs)))
+    at : AllByRecursion (Lacks 10) (lines bs) → (t : Bool) → eqb b 10 ≡ t → AllByRecursion (Lacks 10) (cond t ([] ∷ lines bs) (grow b (lines bs)))
     at h true e = (tt, h)
     at h false e = lacks_grow 10 b _ (eqb-false b 10 e) h
 
-pub fields_lack : (bs : List ℕ) → All (Lacks 9) (fields bs)
+pub fields_lack : (bs : List ℕ) → AllByRecursion (Lacks 9) (fields bs)
 fields_lack [] = (tt, tt)
 fields_lack (b ∷ bs) = at (fields_lack bs) (eqb b 9) refl
   where
-    at : All (Lacks 9) (fields bs) → (t : Bool) → eqb b 9 ≡ t → All (Lacks 9) (cond t ([] ∷ fields bs) (grow b (fields bs)))
+    at : AllByRecursion (Lacks 9) (fields bs) → (t : Bool) → eqb b 9 ≡ t → AllByRecursion (Lacks 9) (cond t ([] ∷ fields bs) (grow b (fields bs)))
     at h true e = (tt, h)
     at h false e = lacks_grow 9 b _ (eqb-false b 9 e) h
 

@@ -1,6 +1,6 @@
 -- Lines of a sheet and fields of a line, and what stands before and after a mark.
 use Rattle.std.specs.Prelude.{◌≡◌, ℕ, ◌<◌, cond, List, [], ◌∷◌, ◌++◌, length, Some, None, Option, ◌==◌, ◌≢◌}
-use Rattle.std.specs.List.{AllByRecursion as All}
+use Rattle.std.specs.List.{AllByRecursion}
 use Rattle.std.specs.Borrow.{Bor}
 
 -- b goes to the front of the first part, which is made where there is none
@@ -59,14 +59,14 @@ tabbed (f ∷ []) = f
 tabbed (f ∷ g ∷ fs) = f ++ 9 ∷ tabbed (g ∷ fs)
 
 abbrev pub Lacks : ℕ → List ℕ → Type 0
-Lacks s = All (λ b. b ≢ s)
+Lacks s = AllByRecursion (λ b. b ≢ s)
 
 -- lines and fields put together give the sheet and the line, and hold no mark
 pub record Parted (bs : List ℕ) : Type 0 where
   pub sheet : ended (lines bs) ≡ closed bs
-  pub no_lf : All (Lacks 10) (lines bs)
+  pub no_lf : AllByRecursion (Lacks 10) (lines bs)
   pub line : tabbed (fields bs) ≡ bs
-  pub no_tab : All (Lacks 9) (fields bs)
+  pub no_tab : AllByRecursion (Lacks 9) (fields bs)
 
 abbrev pub AllParted : Type 0
 AllParted = (bs : List ℕ) → Parted bs

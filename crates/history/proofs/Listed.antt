@@ -1,6 +1,6 @@
 -- Flagged numbers in ascending order.
 use Rattle.std.proofs.Common.{◌≡◌, ℕ, zero, suc, ◌<◌, ◌≤◌, Bool, true, false, cond, List, [], ◌∷◌, ◌++◌, length, get_or, sym, refl, ap, ◌∙◌, subst, ⊎_elim, append-nil, arith}
-use Rattle.std.specs.List.{AllByRecursion as All}
+use Rattle.std.specs.List.{AllByRecursion}
 use Rattle.std.proofs.lemmas.List.{length-append, get_or_append_left, get_or_at}
 use Rattle.std.proofs.lemmas.Bool.{cases_eq, cases_lt}
 use Rattle.automata.proofs.RowLists.{all_append}
@@ -38,11 +38,11 @@ module _ (f : ℕ → Bool) where
       get_d_last [] x = refl
       get_d_last (y ∷ ys) x = get_d_last ys x
 
-  pub all_listed : (n : ℕ) → All (λ s. f s ≡ true) (listed f n)
+  pub all_listed : (n : ℕ) → AllByRecursion (λ s. f s ≡ true) (listed f n)
   all_listed zero = tt
   all_listed (suc n) = all_append (λ s. f s ≡ true) (listed f n) (cond (f n) (n ∷ []) []) (all_listed n) (go (f n) refl)
     where
-      go : (b : Bool) → f n ≡ b → All (λ s. f s ≡ true) (cond b (n ∷ []) [])
+      go : (b : Bool) → f n ≡ b → AllByRecursion (λ s. f s ≡ true) (cond b (n ∷ []) [])
       go true e = (e, tt)
       go false e = tt
 

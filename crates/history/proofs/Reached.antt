@@ -1,6 +1,6 @@
 -- The flags of the reached states are exact.
 use Rattle.std.proofs.Common.{◌≡◌, ℕ, zero, suc, ◌<◌, ◌≤◌, Bool, true, false, ◌&&◌, eqb, ltb, List, [], ◌∷◌, length, get_or, Some, None, Decides, Option, sym, refl, ap, ◌∙◌, subst, ⊎_elim, arith}
-use Rattle.std.specs.List.{AllByRecursion as All}
+use Rattle.std.specs.List.{AllByRecursion}
 use Rattle.std.proofs.ByRecursion.{All-get_or, All-from_get_or}
 use Rattle.std.proofs.lemmas.Bool.{true≢false, and_parts, and_from, or_cases, or_left, or_right, eqb-true, eq-eqb, ltb-true, cases_lt}
 use Rattle.std.proofs.lemmas.Bool.Decides.{Decides-below_or}
@@ -18,11 +18,11 @@ false_unless : (x : Bool) → (x ≡ true → ⊥) → x ≡ false
 false_unless true h = absurd (h refl)
 false_unless false h = refl
 
-pub all_from_below : (n : ℕ) (cs : List ℕ) → all_below n cs ≡ true → All (λ c. c < n) cs
+pub all_from_below : (n : ℕ) (cs : List ℕ) → all_below n cs ≡ true → AllByRecursion (λ c. c < n) cs
 all_from_below n [] e = tt
 all_from_below n (c ∷ cs) e = let parts = and_parts (ltb c n) (all_below n cs) e in (ltb-true c n parts.0, all_from_below n cs parts.1)
 
-any_at : (P : ℕ → Type 0) (c : ℕ) (cs : List ℕ) → any_of (eqb c) cs ≡ true → All P cs → P c
+any_at : (P : ℕ → Type 0) (c : ℕ) (cs : List ℕ) → any_of (eqb c) cs ≡ true → AllByRecursion P cs → P c
 any_at P c [] e all = absurd (true≢false (sym e))
 any_at P c (x ∷ xs) e all = ⊎_elim (λ h. subst P (sym (eqb-true c x h)) all.0) (λ h. any_at P c xs h all.1) (or_cases (eqb c x) (any_of (eqb c) xs) e)
 
@@ -49,7 +49,7 @@ module _ (m : Meaning) (sm : Sound m) where
       (or_cases (eqb c m.root) (any_below (λ s. f s && leads c s) m.states) e)
 
   -- what holds of the root, and of the children of each row of a flagged state, holds of what a round flags
-  onward_at : (P : ℕ → Type 0) (f : ℕ → Bool) → P m.root → ((s k : ℕ) (p : Production) → f s ≡ true → m.row s k ≡ Some p → All P p.children) → (c : ℕ) → onward m f c ≡ true → P c
+  onward_at : (P : ℕ → Type 0) (f : ℕ → Bool) → P m.root → ((s k : ℕ) (p : Production) → f s ≡ true → m.row s k ≡ Some p → AllByRecursion P p.children) → (c : ℕ) → onward m f c ≡ true → P c
   onward_at P f root on c e =
       ⊎_elim (λ r. subst P (sym (eqb-true c m.root r)) root)
       (λ r.
@@ -63,7 +63,7 @@ module _ (m : Meaning) (sm : Sound m) where
       go s k fs None q t = absurd (true≢false (sym t))
       go s k fs (Some p) q t = any_at P c p.children t (on s k p fs q)
 
-  pub row_closed : (s k : ℕ) (p : Production) → m.row s k ≡ Some p → All (λ c. c < m.states) p.children
+  pub row_closed : (s k : ℕ) (p : Production) → m.row s k ≡ Some p → AllByRecursion (λ c. c < m.states) p.children
   row_closed s k p e = all_from_below m.states p.children (subst (Closed m.states) e (sm.closed s k))
 
   onward_beyond : (f : ℕ → Bool) (c : ℕ) → m.states ≤ c → onward m f c ≡ false
@@ -75,7 +75,7 @@ module _ (m : Meaning) (sm : Sound m) where
   pub reached_root : reached m m.root ≡ true
   reached_root = onward_stable m.root (or_left (eqb m.root m.root) (any_below (λ s. reached m s && leads m.root s) m.states) (eq-eqb m.root m.root refl))
 
-  pub reached_next : (s k : ℕ) (p : Production) → reached m s ≡ true → m.row s k ≡ Some p → All (λ c. reached m c ≡ true) p.children
+  pub reached_next : (s k : ℕ) (p : Production) → reached m s ≡ true → m.row s k ≡ Some p → AllByRecursion (λ c. reached m c ≡ true) p.children
   reached_next s k p fs e =
       All-from_get_or (λ c. reached m c ≡ true) p.children 0
       (λ i lt.

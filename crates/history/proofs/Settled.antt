@@ -1,7 +1,7 @@
 -- What settle's entries leave: none is refused, and the ledger has the rows of the reached states, renumbered.
 use Rattle.std.proofs.Common.{◌≡◌, ℕ, zero, suc, ◌+◌, ◌<◌, ◌≤◌, Bool, true, false, cond, ◌&&◌, eqb, ltb, leb, List, [], ◌∷◌, ◌++◌, map, length, get_or, set, replicate, is_ok, Some, Ok, Err, sym, refl, ap, ◌∙◌, subst, ap₂, ⊎_elim, append_assoc, append-nil, arith}
 use mathlib.Core.List.{map-append}
-use Rattle.std.specs.List.{AllByRecursion as All}
+use Rattle.std.specs.List.{AllByRecursion}
 use Rattle.std.proofs.lemmas.List.{length-append, length-map, length-replicate, length-set, set-set, set-get_or, set_at, get_or_at, get_or-set_same}
 use Rattle.std.proofs.lemmas.Bool.{true≢false, and_parts, and_from, cases_eq, cases_Bool, lt-leb, le-ltb, leb-true, ltb-true, lt-ltb, eqb-true, eq-eqb}
 use Rattle.automata.specs.Automaton.{Meaning, Production, Sound, all_below}
@@ -45,7 +45,7 @@ row_entered l s p lt room h =
     not_refused l (add_row s p) (length (rows_at l s))
     (rw (lt-leb (length l.rows) s lt, lt-leb (length l.arities) p.form h.known, le-ltb 1000 p.points h.low, eq-eqb (length p.children) (get_or l.arities p.form 0) h.arity, h.within, lt-leb 32 (length (rows_at l s)) room))
 
-rows_entered : (l : Ledger) (s : ℕ) (g : Production → Production) (ps : List Production) → s < length l.rows → length (rows_at l s) + length ps ≤ 32 → All (λ p. Fine l.arities (length l.rows) (g p)) ps
+rows_entered : (l : Ledger) (s : ℕ) (g : Production → Production) (ps : List Production) → s < length l.rows → length (rows_at l s) + length ps ≤ 32 → AllByRecursion (λ p. Fine l.arities (length l.rows) (g p)) ps
     → enter_all l (map (λ p. add_row s (g p)) ps) ≡ with_rows l (set l.rows s (rows_at l s ++ map g ps))
 rows_entered l s g [] lt room h = ap (with_rows l) (sym (ap (set l.rows s) (append-nil (rows_at l s)) ∙ set-get_or l.rows s []))
 rows_entered l s g (p ∷ ps) lt room h =
@@ -55,13 +55,13 @@ rows_entered l s g (p ∷ ps) lt room h =
     let at : rows_at l' s ≡ one = get_or-set_same l.rows s one [] lt in
     let more = length-append (rows_at l s) (g p ∷ []) in
     ap (λ k. enter_all k (map (λ p. add_row s (g p)) ps)) (row_entered l s (g p) lt (omega arith) h.0)
-    ∙ rows_entered l' s g ps (omega arith) (omega (arith, ap length at)) (subst (λ n. All (λ p. Fine l.arities n (g p)) ps) (sym long) h.1)
+    ∙ rows_entered l' s g ps (omega arith) (omega (arith, ap length at)) (subst (λ n. AllByRecursion (λ p. Fine l.arities n (g p)) ps) (sym long) h.1)
     ∙ ap (with_rows l) (set-set l.rows s one (rows_at l' s ++ map g ps) ∙ ap (set l.rows s) (ap (λ x. x ++ map g ps) at ∙ append_assoc (rows_at l s) (g p ∷ []) (map g ps)))
 
 root_entered : (l : Ledger) (s : ℕ) → s < length l.rows → entry_step l (name_root s) ≡ record { arities = l.arities; rows = l.rows; root = Some s; sealed = l.sealed }
 root_entered l s lt = not_refused l (name_root s) 0 (ap (λ b. cond b (Err NoState) (Ok 0)) (lt-leb (length l.rows) s lt))
 
-every_all : {X : Type 0} (f : X → Bool) (xs : List X) → every f xs ≡ true → All (λ x. f x ≡ true) xs
+every_all : {X : Type 0} (f : X → Bool) (xs : List X) → every f xs ≡ true → AllByRecursion (λ x. f x ≡ true) xs
 every_all f [] h = tt
 every_all f (x ∷ xs) h = let p = and_parts (f x) (every f xs) h in (p.0, every_all f xs p.1)
 
@@ -83,8 +83,8 @@ pub record Passed (l : Ledger) (m : Meaning) : Type 0 where
   pub empty : l.rows ≡ []
   pub few : length (reached_states m) ≤ 64
   pub short : (s : ℕ) → s < m.states → reached m s ≡ true → length (rows_of m s) ≤ 32
-  pub formed : (s : ℕ) → s < m.states → reached m s ≡ true → All (λ p. has_form l.arities p ≡ true) (rows_of m s)
-  pub cheap : (s : ℕ) → s < m.states → reached m s ≡ true → All (λ p. leb p.points 1000 ≡ true) (rows_of m s)
+  pub formed : (s : ℕ) → s < m.states → reached m s ≡ true → AllByRecursion (λ p. has_form l.arities p ≡ true) (rows_of m s)
+  pub cheap : (s : ℕ) → s < m.states → reached m s ≡ true → AllByRecursion (λ p. leb p.points 1000 ≡ true) (rows_of m s)
 
 empty_list : {X : Type 0} (xs : List X) → none_yet xs ≡ true → xs ≡ []
 empty_list [] h = refl
@@ -105,15 +105,15 @@ passed l m h =
       cheap = λ s lt r. every_all (λ p. leb p.points 1000) (rows_of m s) (every_listed (reached m) (λ s. every (λ p. leb p.points 1000) (rows_of m s)) m.states s e.0 lt r);
     }
 
-all_below_from : (n : ℕ) (g : ℕ → ℕ) (cs : List ℕ) → All (λ c. g c < n) cs → all_below n (map g cs) ≡ true
+all_below_from : (n : ℕ) (g : ℕ → ℕ) (cs : List ℕ) → AllByRecursion (λ c. g c < n) cs → all_below n (map g cs) ≡ true
 all_below_from n g [] h = refl
 all_below_from n g (c ∷ cs) h = and_from (ltb (g c) n) (all_below n (map g cs)) (lt-ltb (g c) n h.0) (all_below_from n g cs h.1)
 
-all_turn : {X : Type 0} (P Q : X → Type 0) → ((x : X) → P x → Q x) → (xs : List X) → All P xs → All Q xs
+all_turn : {X : Type 0} (P Q : X → Type 0) → ((x : X) → P x → Q x) → (xs : List X) → AllByRecursion P xs → AllByRecursion Q xs
 all_turn P Q h [] a = tt
 all_turn P Q h (x ∷ xs) a = (h x a.0, all_turn P Q h xs a.1)
 
-all_both : {X : Type 0} (P Q R S : X → Type 0) → ((x : X) → P x → Q x → R x → S x) → (xs : List X) → All P xs → All Q xs → All R xs → All S xs
+all_both : {X : Type 0} (P Q R S : X → Type 0) → ((x : X) → P x → Q x → R x → S x) → (xs : List X) → AllByRecursion P xs → AllByRecursion Q xs → AllByRecursion R xs → AllByRecursion S xs
 all_both P Q R S h [] a b c = tt
 all_both P Q R S h (x ∷ xs) a b c = (h x a.0 b.0 c.0, all_both P Q R S h xs a.1 b.1 c.1)
 
@@ -130,12 +130,12 @@ module _ (m : Meaning) (sm : Sound m) where
   new_rows s = map (renamed (number m)) (rows_of m s)
 
   abbrev ReachedRow : Production → Type 0
-  ReachedRow p = All (λ c. reached m c ≡ true) p.children
+  ReachedRow p = AllByRecursion (λ c. reached m c ≡ true) p.children
 
   pub number_below : (s : ℕ) → reached m s ≡ true → number m s < total
   number_below s e = listed_before (reached m) s m.states (reached_below m sm s e) e
 
-  pub rows_reached : (s : ℕ) → reached m s ≡ true → All ReachedRow (rows_of m s)
+  pub rows_reached : (s : ℕ) → reached m s ≡ true → AllByRecursion ReachedRow (rows_of m s)
   rows_reached s e = all_rows ReachedRow m s (λ k p q. reached_next m sm s k p e q) m.places
 
   module _ (arities : List ℕ) where
@@ -163,8 +163,8 @@ module _ (m : Meaning) (sm : Sound m) where
         let here : List (List Production) = map new_rows old ++ [] ∷ blanks in
         let long : length here ≡ total = length-append (map new_rows old) ([] ∷ blanks) ∙ ap₂ ◌+◌ (length-map old new_rows) (ap suc (length-replicate {A = List Production} k [])) ∙ e in
         let at : get_or here (number m n) [] ≡ [] = get_or_at (map new_rows old) [] blanks [] (length old) (length-map old new_rows) in
-        let fine : All (λ p. Fine l.arities (length here) (renamed (number m) p)) (rows_of m n) =
-        subst (λ x. All (λ p. Fine l.arities x (renamed (number m) p)) (rows_of m n)) (sym long)
+        let fine : AllByRecursion (λ p. Fine l.arities (length here) (renamed (number m) p)) (rows_of m n) =
+        subst (λ x. AllByRecursion (λ p. Fine l.arities x (renamed (number m) p)) (rows_of m n)) (sym long)
         (all_both (λ p. has_form l.arities p ≡ true) (λ p. leb p.points 1000 ≡ true) ReachedRow (λ p. Fine l.arities total (renamed (number m) p)) (fine_row l.arities) (rows_of m n) (ok.formed n lt f) (ok.cheap n lt f) (rows_reached n f)) in
         let room : length (get_or here (number m n) []) + length (rows_of m n) ≤ 32 = omega (arith, ap length at, ok.short n lt f) in
         ap (λ xs. enter_all start (concat (map (row_entries m) xs))) (listed_yes (reached m) n f)

@@ -1,7 +1,7 @@
 -- The worth from the root of a settled ledger is that of the automaton that settle wrote.
 use Rattle.std.proofs.Common.{◌≡◌, ℕ, zero, suc, ◌≤◌, Bool, true, false, cond, ◌&&◌, eqb, List, [], ◌∷◌, ◌++◌, map, length, get_or, take, is_ok, Some, sym, refl, ap, ◌∙◌, ap₂, arith}
 use lib.ListN.{length-map}
-use Rattle.std.specs.List.{AllByRecursion as All}
+use Rattle.std.specs.List.{AllByRecursion}
 use Rattle.std.specs.Option.{option_to_list}
 use Rattle.std.proofs.lemmas.List.{take_all, get_or-map}
 use Rattle.std.proofs.lemmas.Bool.{true≢false}
@@ -46,7 +46,7 @@ module _ {M : Type 0} {o : Ops M} (laws : Laws o) (l : Ledger) (m : Meaning) (sm
       book_lists (with_seal (settled_ledger l m) true) (number m s) (omega (arith, ap length at, length-map (rows_of m s) (renamed (number m)), ok.short s below e)) ∙ at
 
   abbrev Flagged : List ℕ → Type 0
-  Flagged cs = All (λ c. reached m c ≡ true) cs
+  Flagged cs = AllByRecursion (λ c. reached m c ≡ true) cs
 
   abbrev Children : Tickets → Type 0
   Children ts = (cs : List ℕ) → Flagged cs → children_worth o target ts (map (number m) cs) ≡ children_worth o m ts cs

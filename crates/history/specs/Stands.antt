@@ -1,6 +1,6 @@
 -- The rows accepted and not struck since, the readings by them, and what the ledger and the worth over a book say of them.
 use Rattle.std.specs.Prelude.{◌≡◌, ℕ, suc, ◌<◌, ◌≤◌, true, false, ◌↔◌, List, [], ◌∷◌, ◌++◌, Some, Ok, Result}
-use Rattle.std.specs.List.{AllByRecursion as All}
+use Rattle.std.specs.List.{AllByRecursion}
 use Rattle.tickets.specs.Ticket.{Ticket, Tickets, node, nil, cons}
 use Rattle.automata.specs.Automaton.{Meaning, Production, Sound}
 use Rattle.automata.specs.Reading.{Reading, Readings, by, rnil, rcons, ListsOnce}
@@ -19,7 +19,7 @@ SoundCall seal = Unit {0}
 SoundCall reopen = Unit {0}
 
 abbrev pub SoundCalls : List Call → Type 0
-SoundCalls h = All SoundCall h
+SoundCalls h = AllByRecursion SoundCall h
 
 -- a call that is no accepted strike of a row of that state
 abbrev pub Leaves : List Call → Call → ℕ → Type 0

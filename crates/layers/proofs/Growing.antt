@@ -1,6 +1,6 @@
 -- Marks that grow: by one, by a row's children, and round after round.
 use Rattle.std.proofs.Common.{◌≡◌, ℕ, zero, suc, ◌+◌, ◌-◌, ◌<◌, ◌≤◌, Bool, true, false, cond, ◌⊎◌, List, [], ◌∷◌, ◌++◌, map, length, get_or, take, set, replicate, Some, Decides, sym, refl, ap, ◌∙◌, subst, inl, inr, ⊎_elim, arith, below_more}
-use Rattle.std.specs.List.{AllByRecursion as All}
+use Rattle.std.specs.List.{AllByRecursion}
 use Rattle.std.proofs.lemmas.List.{length-set, take_more, take_all, map_more, get_or-map, length-map, get_or-replicate, get_or_past, length-replicate, get_or-set_same, get_or-set_other}
 use Rattle.std.proofs.lemmas.Bool.{and_parts, and_from, both_ways, cases_Bool, cases_eq, cases_lt, true≢false}
 use Rattle.automata.specs.Automaton.{Meaning, Production, Sound, all_below}
@@ -192,14 +192,14 @@ module _ (m : Meaning) (sm : Sound m) where
   kept_marked f marks kept spread start (next s k p c h e ps mc) =
       marked_member (mark kept) p.children c (spread s (state_below m sm s k p e) (kept_marked f marks kept spread start h) k p e (usable_marked p.children ps)) mc
     where
-      usable_marked : (cs : List ℕ) → All (Productive m) cs → each_marked f cs ≡ true
+      usable_marked : (cs : List ℕ) → AllByRecursion (Productive m) cs → each_marked f cs ≡ true
       usable_marked [] a = refl
       usable_marked (x ∷ xs) a = and_from (f x) (each_marked f xs) ((marks x).1 a.0) (usable_marked xs a.1)
 
-  pub rows_within : (s l : ℕ) → m.states ≤ l → All (λ p. all_below l p.children ≡ true) (rows_of m s)
+  pub rows_within : (s l : ℕ) → m.states ≤ l → AllByRecursion (λ p. all_below l p.children ≡ true) (rows_of m s)
   rows_within s l le = all_members (λ p. all_below l p.children ≡ true) (rows_of m s) (λ p h. let r = rows_member m s m.places p h in row_within m sm s r.0 p l le (sym r.2))
     where
-      all_members : (P : Production → Type 0) (xs : List Production) → ((p : Production) → Member p xs → P p) → All P xs
+      all_members : (P : Production → Type 0) (xs : List Production) → ((p : Production) → Member p xs → P p) → AllByRecursion P xs
       all_members P [] h = tt
       all_members P (x ∷ xs) h = (h x (inl refl), all_members P xs (λ p k. h p (inr k)))
 
@@ -207,7 +207,7 @@ module _ (f : ℕ → Bool) (rs : List Row) (i : ℕ) (d : Row) (l : i < length 
   pub row_member : Member (production (get_or rs i d)) (map production rs)
   row_member = member_map production (get_or rs i d) rs (member_at rs i d l)
 
-  pub row_closed : (P : Production → Type 0) → All P (map production rs) → P (production (get_or rs i d))
+  pub row_closed : (P : Production → Type 0) → AllByRecursion P (map production rs) → P (production (get_or rs i d))
   row_closed P all = subst P (get_or-map production rs i d (production d) l) (All-get_or P (map production rs) i (production d) (omega (arith, length-map rs production)) all)
 
   pub ready_at : each_marked f (production (get_or rs i d)).children ≡ true → SomeReady f (map production rs)

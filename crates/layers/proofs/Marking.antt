@@ -1,6 +1,6 @@
 -- Marks: all of a list, one more, and how many there are.
 use Rattle.std.proofs.Common.{◌≡◌, ℕ, zero, suc, ◌+◌, ◌<◌, ◌≤◌, Bool, true, false, cond, ◌&&◌, ltb, ◌≢◌, List, [], ◌∷◌, length, get_or, drop, set, sym, refl, ap, ◌∙◌, ap₂, ⊎_elim, arith}
-use Rattle.std.specs.List.{AllByRecursion as All}
+use Rattle.std.specs.List.{AllByRecursion}
 use Rattle.std.proofs.lemmas.List.{length-take, get_or-take, drop_more, drop_all, get_or-set_same, get_or-set_other, get_or_past}
 use Rattle.std.proofs.lemmas.Bool.{and_parts, and_from, ltb-true, cases_eq, cases_lt, true≢false}
 use Rattle.automata.specs.declared.row.Row.{Row}
@@ -21,11 +21,11 @@ all_marked_false f cs i l e = ap (each_marked f) (drop_more cs i 0 l) ∙ ap (λ
 pub all_marked_end : (f : ℕ → Bool) (cs : List ℕ) (i : ℕ) → length cs ≤ i → each_marked f (drop i cs) ≡ true
 all_marked_end f cs i l = ap (each_marked f) (drop_all i cs l)
 
-pub all_from_marked : (P : ℕ → Type 0) (f : ℕ → Bool) → ((s : ℕ) → f s ≡ true → P s) → (cs : List ℕ) → each_marked f cs ≡ true → All P cs
+pub all_from_marked : (P : ℕ → Type 0) (f : ℕ → Bool) → ((s : ℕ) → f s ≡ true → P s) → (cs : List ℕ) → each_marked f cs ≡ true → AllByRecursion P cs
 all_from_marked P f h [] e = tt
 all_from_marked P f h (c ∷ cs) e = let parts = and_parts (f c) (each_marked f cs) e in (h c parts.0, all_from_marked P f h cs parts.1)
 
-pub marked_from_all : (P : ℕ → Type 0) (f : ℕ → Bool) → ((s : ℕ) → P s → f s ≡ true) → (cs : List ℕ) → All P cs → each_marked f cs ≡ true
+pub marked_from_all : (P : ℕ → Type 0) (f : ℕ → Bool) → ((s : ℕ) → P s → f s ≡ true) → (cs : List ℕ) → AllByRecursion P cs → each_marked f cs ≡ true
 marked_from_all P f h [] a = refl
 marked_from_all P f h (c ∷ cs) a = and_from (f c) (each_marked f cs) (h c a.0) (marked_from_all P f h cs a.1)
 

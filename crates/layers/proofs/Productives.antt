@@ -1,6 +1,6 @@
 -- Marks that rows lead to, and that are closed under rows, are on the productive states.
 use Rattle.std.proofs.Common.{◌≡◌, ℕ, ◌<◌, Bool, true, List, [], ◌∷◌, Some, refl, ⊎_elim, arith}
-use Rattle.std.specs.List.{AllByRecursion as All}
+use Rattle.std.specs.List.{AllByRecursion}
 use Rattle.std.proofs.lemmas.Bool.{and_from, both_ways, cases_lt}
 use Rattle.tickets.specs.Ticket.{Ticket, Tickets, node, nil, cons}
 use Rattle.automata.specs.Automaton.{Meaning, Production, Sound}
@@ -11,7 +11,7 @@ use Rattle.layers.specs.Trim.{Productive, Usable}
 
 module _ (m : Meaning) where
   -- a ticket for each child
-  children_read : (cs : List ℕ) → All (Productive m) cs → (ts : Tickets) × (rs : Readings) × ReadsAll ts m cs rs
+  children_read : (cs : List ℕ) → AllByRecursion (Productive m) cs → (ts : Tickets) × (rs : Readings) × ReadsAll ts m cs rs
   children_read [] ps = (nil, rnil, tt)
   children_read (c ∷ cs) ps =
       let first = ps.0 in

@@ -1,7 +1,7 @@
 -- Trimming keeps the readings from the root, and there is one way to trim.
 use Rattle.std.proofs.Common.{◌≡◌, ℕ, Bool, true, false, cond, ◌⊎◌, List, [], ◌∷◌, map, Some, None, Decides, Option, sym, refl, ap, ◌∙◌, subst, ap₂, inl, inr, ⊎_elim, arith}
 use mathlib.Core.Path.{fun_ext}
-use Rattle.std.specs.List.{AllByRecursion as All}
+use Rattle.std.specs.List.{AllByRecursion}
 use Rattle.tickets.specs.Ticket.{Ticket, Tickets, node, nil, cons}
 use Rattle.automata.specs.Automaton.{Meaning, Production}
 use Rattle.automata.specs.Reading.{Reading, by, Reads, readings, readings_all, row_readings, concat, combine, fits, upto, Member}
@@ -22,7 +22,7 @@ combine_none [] = refl
 combine_none (r ∷ rs) = combine_none rs
 
 -- where the children have a reading, each child's state is productive
-children_read : (m : Meaning) (ts : Tickets) (cs : List ℕ) → (readings_all ts m cs ≡ []) ⊎ All (Productive m) cs
+children_read : (m : Meaning) (ts : Tickets) (cs : List ℕ) → (readings_all ts m cs ≡ []) ⊎ AllByRecursion (Productive m) cs
 children_read m nil [] = inr tt
 children_read m nil (c ∷ cs) = inl refl
 children_read m (cons t ts) [] = inl refl
@@ -35,13 +35,13 @@ cond_same : {A : Type 0} (b : Bool) (x : A) → cond b x x ≡ x
 cond_same true x = refl
 cond_same false x = refl
 
-kept_children : (m : Meaning) (s k : ℕ) (p : Production) → Kept m s → m.row s k ≡ Some p → Usable m p → (cs : List ℕ) → ((c : ℕ) → Member c cs → Member c p.children) → All (Kept m) cs
+kept_children : (m : Meaning) (s k : ℕ) (p : Production) → Kept m s → m.row s k ≡ Some p → Usable m p → (cs : List ℕ) → ((c : ℕ) → Member c cs → Member c p.children) → AllByRecursion (Kept m) cs
 kept_children m s k p h e u [] sub = tt
 kept_children m s k p h e u (c ∷ cs) sub = (next s k p c h e u (sub c (inl refl)), kept_children m s k p h e u cs (λ d i. sub d (inr i)))
 
 module _ (m m' : Meaning) (tr : Trimmed m m') where
   abbrev Children : Tickets → Type 0
-  Children ts = (cs : List ℕ) → All (Kept m) cs → readings_all ts m' cs ≡ readings_all ts m cs
+  Children ts = (cs : List ℕ) → AllByRecursion (Kept m) cs → readings_all ts m' cs ≡ readings_all ts m cs
 
   row_same : (s k f : ℕ) (ts : Tickets) → Children ts → Kept m s → (x' x : Option Production) → m'.row s k ≡ x' → m.row s k ≡ x
       → row_readings k f ts (readings_all ts m') x' ≡ row_readings k f ts (readings_all ts m) x

@@ -1,6 +1,6 @@
 -- Trim: what is left of an automaton when only the rows stay that a whole ticket from the root can use.
 use Rattle.std.specs.Prelude.{◌≡◌, ℕ, Bool, cond, ◌↔◌, Some, None, Option}
-use Rattle.std.specs.List.{AllByRecursion as All}
+use Rattle.std.specs.List.{AllByRecursion}
 use Rattle.tickets.specs.Ticket.{Ticket}
 use Rattle.automata.specs.Automaton.{Meaning, Production}
 use Rattle.automata.specs.Reading.{Accepts, Member}
@@ -14,7 +14,7 @@ Productive m q = (t : Ticket) × Accepts m q t
 
 -- each child of the row is productive
 abbrev pub Usable : Meaning → Production → Type 0
-Usable m p = All (Productive m) p.children
+Usable m p = AllByRecursion (Productive m) p.children
 
 -- the root, if productive, and every child of a usable row of a kept state
 pub data Kept (m : Meaning) : ℕ → Type 0 where

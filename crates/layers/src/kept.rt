@@ -1,6 +1,6 @@
 // Marking the kept states, by rounds over the collected rows.
 ghost use Rattle.std.specs.Prelude.{◌≡◌, ℕ, ◌<◌, ◌≤◌, true, false, ◌⊎◌, map, length, Decides};
-ghost use Rattle.std.specs.List.{AllByRecursion as All};
+ghost use Rattle.std.specs.List.{AllByRecursion};
 ghost use Rattle.automata.specs.Automaton.{Production, production, all_below};
 ghost use Rattle.automata.specs.Reading.{Member};
 ghost use Rattle.layers.specs.Marks.{mark, each_marked};
@@ -32,7 +32,7 @@ fn keep_children(marks: &mut [bool], row: Row) -> bool
 
 // Marks the children of each row whose children are all productive, and tells whether any was added.
 fn keep_rows(productive: &[bool], rows: &[Row], marks: &mut [bool]) -> bool
-    requires { All (λ p. all_below (length marks.old) p.children ≡ true) (map production rows.now) }
+    requires { AllByRecursion (λ p. all_below (length marks.old) p.children ≡ true) (map production rows.now) }
     ensures grows { Grows marks.old marks.new result }
     ensures all { (p : Production) → Member p (map production rows.now) → each_marked (mark productive.now) p.children ≡ true → each_marked (mark marks.new) p.children ≡ true }
     ensures from { (s : ℕ) → mark marks.new s ≡ true → (mark marks.old s ≡ true) ⊎ Led (mark productive.now) (map production rows.now) s }

@@ -8,7 +8,7 @@ use fields::fault::Stop;
 use register::sealed::Sealed;
 use std::alloc::{AllocError, Global};
 use text::put::put_number;
-use verdicts::tickets::put_tickets;
+use verdicts::ticket_lines::put_tickets;
 
 // Puts the numbers of states and of rows.
 fn put_counts(out: &mut Vec<u8>, heap: Global, sealed: &Sealed<'_>) -> Result<(), AllocError>

@@ -1,6 +1,6 @@
 -- States have equal keys where they have each row equally often.
 use Rattle.std.proofs.Common.{◌≡◌, ℕ, ◌+◌, ◌*◌, ◌/◌, ◌%◌, ◌<◌, ◌≤◌, false, cond, eqb, ◌⊎◌, List, [], ◌∷◌, map, length, get_or, take, sum_by, sym, refl, ap, ◌∙◌, ap₂, inl, inr, add_assoc, add_comm, arith}
-use Rattle.std.specs.List.{AllByRecursion as All}
+use Rattle.std.specs.List.{AllByRecursion}
 use Rattle.std.specs.List.Sorted.{IsNonDecreasing, IsNonDecreasingBy}
 use Rattle.std.proofs.lemmas.List.{get_or-map, length-map}
 use Rattle.std.proofs.lemmas.List.Sums.{sum_by-cons}
@@ -23,13 +23,13 @@ occurs_sum_by : (k : ℕ) (xs : List ℕ) → occurs k xs ≡ sum_by (λ x. cond
 occurs_sum_by k [] = refl
 occurs_sum_by k (x ∷ xs) = ap (λ n. cond (eqb x k) 1 0 + n) (occurs_sum_by k xs) ∙ sym (sum_by-cons (λ x. cond (eqb x k) 1 0) x xs)
 
-none_above : (k : ℕ) (xs : List ℕ) → All (λ y. k < y) xs → occurs k xs ≡ 0
+none_above : (k : ℕ) (xs : List ℕ) → AllByRecursion (λ y. k < y) xs → occurs k xs ≡ 0
 none_above k [] h = refl
 none_above k (x ∷ xs) h =
     let e : eqb x k ≡ false = ne_eqb x k (λ i. omega (arith, h.0)) in
     rw e (omega (arith, none_above k xs h.1))
 
-rest_above : (k x : ℕ) (xs : List ℕ) → IsNonDecreasing (x ∷ xs) → k < x → All (λ y. k < y) (x ∷ xs)
+rest_above : (k x : ℕ) (xs : List ℕ) → IsNonDecreasing (x ∷ xs) → k < x → AllByRecursion (λ y. k < y) (x ∷ xs)
 rest_above k x xs h l = All-from_get_or (λ y. k < y) (x ∷ xs) 0 (λ i j. omega (arith, h 0 i 0 (omega arith) j))
 
 present : (x : ℕ) (xs : List ℕ) → 0 < occurs x (x ∷ xs)

@@ -2,7 +2,7 @@
 use Rattle.std.proofs.Common.{◌≡◌, ℕ, zero, suc, ◌+◌, ◌<◌, ◌≤◌, Bool, true, false, cond, eqb, ltb, List, [], ◌∷◌, map, Some, None, Option, sym, refl, ap, ◌∙◌, ap₂, ⊎_elim, add_assoc, add_comm, arith}
 use Rattle.std.specs.Option.{option_to_list}
 use Rattle.std.proofs.ByRecursion.{All-append}
-use Rattle.std.specs.List.{AllByRecursion as All}
+use Rattle.std.specs.List.{AllByRecursion}
 use Rattle.std.proofs.lemmas.Bool.{eqb-true, eqb-false, eq-eqb, ltb-true, and_parts, ne_eqb, cond_both, cases_eq}
 use Rattle.std.proofs.lemmas.Bool.Decides.{nat_tests}
 use Rattle.automata.specs.Automaton.{Meaning, Production, Sound, Closed, all_below}
@@ -36,15 +36,15 @@ map_factor g h φ n e (c ∷ cs) b =
     let k = and_parts (ltb c n) (all_below n cs) b in
     ap₂ ◌∷◌ (e c (ltb-true c n k.0)) (map_factor g h φ n e cs k.1)
 
-pub rows_closed : (m : Meaning) → Sound m → (q k : ℕ) → All (λ p. all_below m.states p.children ≡ true) (rows_below m q k)
+pub rows_closed : (m : Meaning) → Sound m → (q k : ℕ) → AllByRecursion (λ p. all_below m.states p.children ≡ true) (rows_below m q k)
 rows_closed m sound q zero = tt
 rows_closed m sound q (suc k) = All-append _ (rows_below m q k) (option_to_list (m.row q k)) (rows_closed m sound q k) (one (m.row q k) (sound.closed q k))
   where
-    one : (r : Option Production) → Closed m.states r → All (λ p. all_below m.states p.children ≡ true) (option_to_list r)
+    one : (r : Option Production) → Closed m.states r → AllByRecursion (λ p. all_below m.states p.children ≡ true) (option_to_list r)
     one None h = tt
     one (Some p) h = (h, tt)
 
-rows_factor : (g h φ : ℕ → ℕ) (n : ℕ) → ((c : ℕ) → c < n → g c ≡ φ (h c)) → (xs : List Production) → All (λ p. all_below n p.children ≡ true) xs → map (renamed g) xs ≡ map (renamed φ) (map (renamed h) xs)
+rows_factor : (g h φ : ℕ → ℕ) (n : ℕ) → ((c : ℕ) → c < n → g c ≡ φ (h c)) → (xs : List Production) → AllByRecursion (λ p. all_below n p.children ≡ true) xs → map (renamed g) xs ≡ map (renamed φ) (map (renamed h) xs)
 rows_factor g h φ n e [] b = refl
 rows_factor g h φ n e (p ∷ xs) b =
     let k = map_factor g h φ n e p.children b.0 in
@@ -55,7 +55,7 @@ sums_map plus none f r [] = refl
 sums_map plus none f r (x ∷ xs) = ap (plus (f (r x))) (sums_map plus none f r xs)
 
 -- what is alike under a finer grouping is alike under a coarser one
-pub like_coarser : (n : ℕ) (R : ℕ → List Production) → ((q : ℕ) → All (λ p. all_below n p.children ≡ true) (R q)) → (h g : ℕ → ℕ) → Refines n h g → (p q : ℕ) → Like R h p q → Like R g p q
+pub like_coarser : (n : ℕ) (R : ℕ → List Production) → ((q : ℕ) → AllByRecursion (λ p. all_below n p.children ≡ true) (R q)) → (h g : ℕ → ℕ) → Refines n h g → (p q : ℕ) → Like R h p q → Like R g p q
 like_coarser n R closed h g fine p q like s = side p ∙ same_sums ◌+◌ 0 add_assoc add_comm (λ x. f (renamed φ x)) (map (renamed h) (R p)) (map (renamed h) (R q)) like ∙ sym (side q)
   where
     φ : ℕ → ℕ
@@ -90,7 +90,7 @@ module _ (n : ℕ) (R : ℕ → List Production) (g g' : ℕ → ℕ) (round : R
   pub round_refines : Refines n g' g
   round_refines p q lp lq e = sym (round p lp).group ∙ ap g e ∙ (round q lq).group
 
-  pub round_coarser : ((q : ℕ) → All (λ p. all_below n p.children ≡ true) (R q)) → (h : ℕ → ℕ) → ((p q : ℕ) → p < n → q < n → h p ≡ h q → Like R h p q) → Refines n h g → Refines n h g'
+  pub round_coarser : ((q : ℕ) → AllByRecursion (λ p. all_below n p.children ≡ true) (R q)) → (h : ℕ → ℕ) → ((p q : ℕ) → p < n → q < n → h p ≡ h q → Like R h p q) → Refines n h g → Refines n h g'
   round_coarser closed h ok fine p q lp lq e =
       round_joins p q lp lq (fine p q lp lq e) (like_coarser n R closed h g fine p q (ok p q lp lq e))
 

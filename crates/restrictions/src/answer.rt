@@ -10,7 +10,7 @@ ghost use Rattle.restrictions.specs.House.{Restricted, Told};
 use crate::chain::onward;
 use crate::house::House;
 use crate::report::report;
-use crate::rules::rules_in_order;
+use crate::rule_steps::rules_in_order;
 use automata::row::Row;
 use fields::fault::{Fault, Stop};
 use refusals::refusal::{Refusal, RegisterRefusal};

@@ -5,7 +5,7 @@ ghost use Rattle.sheet.specs.Held.{lists};
 ghost use Rattle.restrictions.specs.House.{Lists, Only, Returns};
 
 use crate::rule::Rule;
-use crate::rules::{by_rule, enter_forms};
+use crate::rule_steps::{by_rule, enter_forms};
 use automata::row::Row;
 use fields::fault::Stop;
 use listing::whole::listing;

@@ -7,4 +7,4 @@ mod chain;
 pub mod house;
 mod report;
 pub mod rule;
-mod rules;
+mod rule_steps;

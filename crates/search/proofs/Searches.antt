@@ -1,6 +1,6 @@
 -- What a search lists, and what its answer tells.
 use Rattle.std.proofs.Common.{◌≡◌, ℕ, zero, suc, ◌+◌, ◌<◌, ◌≤◌, Bool, true, false, cond, ◌⊎◌, List, [], ◌∷◌, ◌++◌, length, take, set, replicate, Some, Ok, Err, sym, refl, ap, ◌∙◌, subst, ap₂, inl, inr, ⊎_elim, arith, below_more}
-use Rattle.std.specs.List.{AllByRecursion as All}
+use Rattle.std.specs.List.{AllByRecursion}
 use Rattle.std.proofs.ByRecursion.{All-weaker}
 use Rattle.std.proofs.lemmas.List.{take_more_set, length-set, map_push, get_or-replicate, get_or_past, length-replicate}
 use Rattle.std.proofs.lemmas.Bool.{both_ways, cases_eq, cases_lt, lt-ltb, le-ltb, true≢false}
@@ -21,7 +21,7 @@ use Rattle.layers.proofs.Productives.{usable_productive, place_below, stuck_prod
 
 -- a further line, whose children stand on the lines before and whose state does not
 lines_push : (m : Meaning) (earlier : List ℕ) (ls : List Line) (l : Line) (p : Production) → Lines m earlier ls → m.row l.state l.place ≡ Some p
-    → All (λ c. Member c earlier ⊎ Member c (line_states ls)) p.children → (Member l.state earlier → ⊥) → (Member l.state (line_states ls) → ⊥) → Lines m earlier (ls ++ l ∷ [])
+    → AllByRecursion (λ c. Member c earlier ⊎ Member c (line_states ls)) p.children → (Member l.state earlier → ⊥) → (Member l.state (line_states ls) → ⊥) → Lines m earlier (ls ++ l ∷ [])
 lines_push m earlier [] l p h e cs new new' = ((p, e, All-weaker (λ c. Member c earlier ⊎ Member c []) (λ c. Member c earlier) (λ c k. ⊎_elim (λ x. x) absurd k) p.children cs), new, tt)
 lines_push m earlier (x ∷ ls) l p h e cs new new' = (
   h.0,
@@ -32,7 +32,7 @@ lines_push m earlier (x ∷ ls) l p h e cs new new' = (
 )
 
 module _ (m : Meaning) (sm : Sound m) where
-  line_productive : (earlier : List ℕ) → ((c : ℕ) → Member c earlier → Productive m c) → (l : Line) → (p : Production) × (m.row l.state l.place ≡ Some p) × All (λ c. Member c earlier) p.children → Productive m l.state
+  line_productive : (earlier : List ℕ) → ((c : ℕ) → Member c earlier → Productive m c) → (l : Line) → (p : Production) × (m.row l.state l.place ≡ Some p) × AllByRecursion (λ c. Member c earlier) p.children → Productive m l.state
   line_productive earlier all l h =
       usable_productive m l.state l.place h.0 (place_below m sm l.state l.place h.0 h.1) h.1 (All-weaker (λ c. Member c earlier) (Productive m) all h.0.children h.2)
 
@@ -61,7 +61,7 @@ module _ (m : Meaning) (start : ℕ) (marks : List Bool) (ls : List Line) (n : �
   abbrev L : List Line
   L = take n ls
 
-  children_stand : (p : Production) → each_marked (mark marks) p.children ≡ true → All (λ c. Member c [] ⊎ Member c (line_states L)) p.children
+  children_stand : (p : Production) → each_marked (mark marks) p.children ≡ true → AllByRecursion (λ c. Member c [] ⊎ Member c (line_states L)) p.children
   children_stand p all = all_from_marked (λ c. Member c [] ⊎ Member c (line_states L)) (mark marks) (λ s e. inr ((h.marks_lines s).0 e)) p.children all
 
   pub push_lines : (s k : ℕ) (l : Line) → n < length ls → l.state ≡ s → l.place ≡ k → mark marks s ≡ false → Ready m (mark marks) s k → Lines m [] (take (n + 1) (set ls n l))

@@ -1,6 +1,6 @@
 -- What a search answers: lines that build up an accepted ticket of the start, or none.
 use Rattle.std.specs.Prelude.{◌≡◌, ℕ, true, cond, ◌↔◌, List, [], ◌∷◌, ◌++◌, Some, Ok, Err, Result, ◌≢◌, nat_lt}
-use Rattle.std.specs.List.{AllByRecursion as All}
+use Rattle.std.specs.List.{AllByRecursion}
 use Rattle.refusals.specs.declared.refusal.SearchRefusal.{SearchRefusal}
 use Rattle.refusals.specs.declared.refusal.SearchRefusal.TheVariants.{Start, Lines as FewLines}
 use Rattle.tickets.specs.Ticket.{Ticket}
@@ -18,7 +18,7 @@ search_checked m start room = cond (nat_lt start m.states) (cond (nat_lt room m.
 abbrev pub Lines : Meaning → List ℕ → List Line → Type 0
 Lines m earlier [] = Unit {0}
 Lines m earlier (l ∷ ls) =
-    ((p : Production) × (m.row l.state l.place ≡ Some p) × All (λ c. Member c earlier) p.children)
+    ((p : Production) × (m.row l.state l.place ≡ Some p) × AllByRecursion (λ c. Member c earlier) p.children)
     × (Member l.state earlier → ⊥)
     × Lines m (l.state ∷ earlier) ls
 

@@ -2,7 +2,7 @@
 use Rattle.std.proofs.Common.{◌≡◌, ℕ, zero, suc, ◌+◌, ◌<◌, Bool, true, false, List, [], ◌∷◌, ◌++◌, map, length, take, is_ok, Some, None, Ok, Err, sym, refl, ap, ◌∙◌, ap₂, arith}
 use mathlib.Core.Path.{fun_ext}
 use mathlib.Core.List.{map-append}
-use Rattle.std.specs.List.{AllByRecursion as All}
+use Rattle.std.specs.List.{AllByRecursion}
 use Rattle.refusals.specs.declared.refusal.SettleRefusal.{SettleRefusal}
 use Rattle.automata.specs.Automaton.{Meaning, Production, Sound}
 use Rattle.automata.specs.Reading.{concat}
@@ -66,7 +66,7 @@ take_again zero xs = refl
 take_again (suc n) [] = refl
 take_again (suc n) (x ∷ xs) = ap (λ r. x ∷ r) (take_again n xs)
 
-map_same : {X Y : Type 0} (g h : X → Y) (P : X → Type 0) → ((x : X) → P x → g x ≡ h x) → (xs : List X) → All P xs → map g xs ≡ map h xs
+map_same : {X Y : Type 0} (g h : X → Y) (P : X → Type 0) → ((x : X) → P x → g x ≡ h x) → (xs : List X) → AllByRecursion P xs → map g xs ≡ map h xs
 map_same g h P e [] a = refl
 map_same g h P e (x ∷ xs) a = ap₂ (λ y ys. y ∷ ys) (e x a.0) (map_same g h P e xs a.1)
 
@@ -85,13 +85,13 @@ module _ (m : Meaning) (sm : Sound m) (f : ℕ → Bool) (same : (s : ℕ) → f
   numbered : (s : ℕ) → s < m.states → g s ≡ number m s
   numbered s l = numbers s (omega (arith, sm.few_states)) ∙ ap (λ x. length (listed x s)) reached_flags
 
-  numbered_row : (s : ℕ) → s < m.states → (p : Production) → All (λ c. c < m.states) p.children → add_row (g s) (renamed g p) ≡ add_row (number m s) (renamed (number m) p)
+  numbered_row : (s : ℕ) → s < m.states → (p : Production) → AllByRecursion (λ c. c < m.states) p.children → add_row (g s) (renamed g p) ≡ add_row (number m s) (renamed (number m) p)
   numbered_row s l p h = ap₂ (λ x cs. add_row x (record { form = p.form; points = p.points; children = cs })) (numbered s l) (map_same g (number m) (λ c. c < m.states) numbered p.children h)
 
   numbered_state : (s : ℕ) → s < m.states → numbered_rows g s (rows_of m s) ≡ row_entries m s
   numbered_state s l =
-      map_same (λ p. add_row (g s) (renamed g p)) (λ p. add_row (number m s) (renamed (number m) p)) (λ p. All (λ c. c < m.states) p.children) (numbered_row s l) (rows_of m s)
-      (all_rows (λ p. All (λ c. c < m.states) p.children) m s (λ k p e. row_closed m sm s k p e) m.places)
+      map_same (λ p. add_row (g s) (renamed g p)) (λ p. add_row (number m s) (renamed (number m) p)) (λ p. AllByRecursion (λ c. c < m.states) p.children) (numbered_row s l) (rows_of m s)
+      (all_rows (λ p. AllByRecursion (λ c. c < m.states) p.children) m s (λ k p e. row_closed m sm s k p e) m.places)
 
   states_named : map (λ s. numbered_rows g s (rows_of m s)) (listed f m.states) ≡ map (row_entries m) (reached_states m)
   states_named =

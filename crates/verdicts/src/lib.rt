@@ -2,4 +2,4 @@
 
 #![tactic(auto)]
 
-pub mod tickets;
+pub mod ticket_lines;

@@ -1,5 +1,5 @@
 use Rattle.std.proofs.Common.{◌≡◌, ◌<◌, true, ◌⊎◌, List, map, length, sym, ap, ◌∙◌, subst, inl, inr, arith}
-use Rattle.std.specs.List.{AllByRecursion as All}
+use Rattle.std.specs.List.{AllByRecursion}
 use Rattle.automata.specs.Automaton.{Production, production, all_below}
 use Rattle.automata.specs.Reading.{Member}
 use Rattle.layers.specs.Marks.{mark, each_marked}
@@ -14,7 +14,7 @@ keep_rows-requires g c =
     let m = g.A.Automaton.meaning c.args.below.now in
     let sm = g.A.Automaton.sound c.args.below.now in
     let n = length c.loop-state.marks in
-    subst (λ (ps : List Production). All (λ p. all_below n p.children ≡ true) ps) (sym (ap (map production) c.as_slice.ensures.value ∙ table_read m c.args.rows.now m.states c.loop-state.state c.index-rows-state.result c.requires.table (omega (arith, c.loop-state.invariant.1)) c.index-rows-state.is))
+    subst (λ (ps : List Production). AllByRecursion (λ p. all_below n p.children ≡ true) ps) (sym (ap (map production) c.as_slice.ensures.value ∙ table_read m c.args.rows.now m.states c.loop-state.state c.index-rows-state.result c.requires.table (omega (arith, c.loop-state.invariant.1)) c.index-rows-state.is))
     (rows_within m sm c.loop-state.state n (omega (arith, c.loop-state.invariant.2, sm.few_states)))
 
 pub loop-state-preserved : goal.loop-state-preserved

@@ -5,8 +5,8 @@ use Rattle.ledger.specs.Ledger.{add_form, entry_step}
 use Rattle.register.specs.Held.{held}
 use Rattle.settle.proofs.EntriesMade.{entry_taken}
 use Rattle.restrictions.proofs.Ruling.{forms_more, forms_end}
-use Rattle.restrictions.proofs.rules.enter_forms.Goals as goal
-use Rattle.restrictions.proofs.rules.enter_forms.Goals.{in-Some, in_default}
+use Rattle.restrictions.proofs.rule_steps.enter_forms.Goals as goal
+use Rattle.restrictions.proofs.rule_steps.enter_forms.Goals.{in-Some, in_default}
 
 pub loop-form-preserved : goal.loop-form-preserved
 loop-form-preserved c =

@@ -1,8 +1,8 @@
 use Rattle.std.proofs.Common.{◌≡◌, vec_items, vec_len, sym, ap, ◌∙◌, arith}
 use Rattle.std.proofs.lemmas.Bool.{eqb-true, eqb-false}
 use Rattle.restrictions.proofs.Ruling.{bars_more, rules_some, rules_none}
-use Rattle.restrictions.proofs.rules.rules_in_order.Goals as goal
-use Rattle.restrictions.proofs.rules.rules_in_order.Goals.{then-is_empty+in_ok-push-3, else-is_empty}
+use Rattle.restrictions.proofs.rule_steps.rules_in_order.Goals as goal
+use Rattle.restrictions.proofs.rule_steps.rules_in_order.Goals.{then-is_empty+in_ok-push-3, else-is_empty}
 
 pub loop-bar-preserved : goal.loop-bar-preserved
 loop-bar-preserved c = bars_more c.args.levels.now c.args.bars.now c.loop-bar.bar-index _ (vec_items c.loop-bar.rules) _ c.loop-bar-test.true c.loop-bar.invariant c.in_ok-push-2.ensures.items

@@ -1,7 +1,7 @@
 use Rattle.std.proofs.Common.{◌≡◌, ◌+◌, ◌++◌, map, drop, vec_items}
 use Rattle.register.specs.Held.{held_sealed}
 use Rattle.verdicts.specs.Verdicts.{tickets_pass, tickets_text}
-use Rattle.verdicts.proofs.tickets.put_tickets.Given as goal
+use Rattle.verdicts.proofs.ticket_lines.put_tickets.Given as goal
 
 abbrev pub invariant-loop-i : goal.invariant-loop-i
 invariant-loop-i l =

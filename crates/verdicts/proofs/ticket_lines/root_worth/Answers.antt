@@ -4,7 +4,7 @@ use Rattle.tickets.specs.Checked.{ticket_of}
 use Rattle.ledger.specs.Ledger.{book}
 use Rattle.register.specs.Held.{held_sealed}
 use Rattle.verdicts.proofs.Read.{worth_given, few_nodes, few_states, root_within, few_cells}
-use Rattle.verdicts.proofs.tickets.root_worth.Goals as goal
+use Rattle.verdicts.proofs.ticket_lines.root_worth.Goals as goal
 
 pub overflow_mul-cells : goal.overflow_mul-cells
 overflow_mul-cells g c =

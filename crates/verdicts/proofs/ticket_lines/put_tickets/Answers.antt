@@ -5,7 +5,7 @@ use Rattle.register.specs.Held.{held_sealed}
 use Rattle.verdicts.specs.Verdicts.{tickets_pass, tickets_text}
 use Rattle.text.proofs.Lines.{ends}
 use Rattle.verdicts.proofs.Read.{stops, pass_stops, pass_more, text_more}
-use Rattle.verdicts.proofs.tickets.put_tickets.Goals as goal
+use Rattle.verdicts.proofs.ticket_lines.put_tickets.Goals as goal
 
 pub returns-in_err-put_ticket : goal.returns-in_err-put_ticket
 returns-in_err-put_ticket c =

@@ -1,7 +1,7 @@
 use Rattle.std.proofs.Common.{ap, ◌∙◌}
 use Rattle.verdicts.specs.Verdicts.{yes_word}
 use Rattle.verdicts.proofs.Read.{verdict_whole}
-use Rattle.verdicts.proofs.tickets.put_verdict.Goals as goal
+use Rattle.verdicts.proofs.ticket_lines.put_verdict.Goals as goal
 
 pub returns : goal.returns
 returns c =

@@ -2,7 +2,7 @@ use Rattle.std.proofs.Common.{ℕ, List, ◌++◌, vec_items, ap, ◌∙◌}
 use Rattle.tickets.specs.Checked.{ticket_of}
 use Rattle.register.specs.Held.{held_sealed}
 use Rattle.verdicts.proofs.Read.{told}
-use Rattle.verdicts.proofs.tickets.put_checked.Goals as goal
+use Rattle.verdicts.proofs.ticket_lines.put_checked.Goals as goal
 
 pub returns : goal.returns
 returns c =
