@@ -1,7 +1,8 @@
 #!/usr/bin/env python3
 """Spells the repository's own definitions and lemmas as today's Rattle does: words in snake case, types in camel case.
 
-Run once, at the top, after the kit's port.py. It collects the names that crates/*/specs and crates/*/proofs define, and
+Run once, at the top, after the kit's port.py. It also gives the library's AllByRecursion its own name, which port.py calls
+All, a name that is the library's for something else today. It collects the names that crates/*/specs and crates/*/proofs define, and
 rewrites each where it stands as a whole word in .antt and .rt files, outside comments and texts. In the proof of a
 function the names that the check makes (c.NAME, l.NAME, and the goals themselves) stay. With --list it only prints the
 names, old and new.
@@ -71,6 +72,8 @@ def spell_line(line, names, own):
 
 
 def spell(text, names, path):
+    if "AllByRecursion as All" in text:
+        text = re.sub(r"(?<![\w'-])All(?![\w'-])", "AllByRecursion", text.replace("AllByRecursion as All", "AllByRecursion"))
     own = of_function(path)
     lent = {n.strip() for line in LENT.findall(text) for n in line.split(",")}
     names = {n: p for n, p in names.items() if n not in lent}
