@@ -1,11 +1,12 @@
 #!/usr/bin/env python3
 """Spells the repository's own definitions and lemmas as today's Rattle does: words in snake case, types in camel case.
 
-Run once, at the top, after the kit's port.py. It also gives the library's AllByRecursion its own name, which port.py calls
-All, a name that is the library's for something else today. It collects the names that crates/*/specs and crates/*/proofs define, and
-rewrites each where it stands as a whole word in .antt and .rt files, outside comments and texts. In the proof of a
-function the names that the check makes (c.NAME, l.NAME, and the goals themselves) stay. With --list it only prints the
-names, old and new.
+Run once, at the top, after the kit's port.py. It collects the names that crates/*/specs and crates/*/proofs define, and
+those that an import there or in crates/*/src gives by 'as', and rewrites each where it stands as a whole word in .antt
+and .rt files, outside comments and texts. A name that a file takes from the library stays in that file, and so do, in the
+proof of a function, the names that the check makes (c.NAME, l.NAME, and the goals themselves). With --list it only prints
+the names, old and new. It also gives the library's AllByRecursion its own name, where port.py calls it All, a name that
+the library has for something else today.
 """
 import glob
 import re

@@ -30,8 +30,8 @@ fn report_house(rt: &HostRuntime, house: &House) -> anyhow::Result<()> {
 
 fn report_fault(rt: &HostRuntime, fault: Fault) -> anyhow::Result<()> {
     let line = fault_line(rt.alloc(), fault)?;
-    rt.stdout().write_all(&line)?;
     let why = sentence(rt.alloc(), fault)?;
+    rt.stdout().write_all(&line)?;
     rt.stderr().write_all(why.as_bytes())?;
     Ok(())
 }

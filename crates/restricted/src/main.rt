@@ -14,8 +14,8 @@ use text::faults::fault_line;
 
 fn report_fault(rt: &HostRuntime, fault: Fault) -> anyhow::Result<()> {
     let line = fault_line(rt.alloc(), fault)?;
-    rt.stdout().write_all(&line)?;
     let why = sentence(rt.alloc(), fault)?;
+    rt.stdout().write_all(&line)?;
     rt.stderr().write_all(why.as_bytes())?;
     Ok(())
 }
