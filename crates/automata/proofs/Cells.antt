@@ -1,20 +1,21 @@
 -- The cells of the table, one product, one row, one node at a time.
-use Rattle.std.proofs.Common.{◌≡◌, ℕ, zero, suc, ◌+◌, ◌*◌, ◌<◌, ◌≤◌, true, cond, ◌&&◌, eqb, ltb, ◌⊎◌, List, [], ◌∷◌, length, get_or, take, drop, set, Some, None, Option, sym, refl, ap, ◌∙◌, subst, ap₂, inl, inr, add-mul, one-mul, arith}
-use Rattle.std.proofs.lemmas.List.{drop_more, drop_all, get_or-take, length-take, get_or-set_same, get_or-set_other}
+use Rattle.std.proofs.Common.{◌≡◌, ℕ, suc, ◌+◌, ◌-◌, ◌*◌, ◌<◌, ◌≤◌, true, cond, ◌&&◌, eqb, ltb, ◌⊎◌, List, [], ◌∷◌, ◌++◌, length, get_or, take, drop, set, Some, None, Option, sym, refl, ap, ◌∙◌, subst, ap₂, inl, inr, add-mul, one-mul, arith}
+use Rattle.std.specs.List.{list_all}
+use Rattle.std.proofs.lemmas.List.{get_or-set_same, get_or-set_other, get_or-append-add, get_or-take, get_or-drop, length-take}
 use Rattle.std.proofs.lemmas.Bool.{ltb-true, cases_eq, and_parts}
 use Rattle.tickets.specs.Ticket.{Tickets, node, nil, cons, count}
 use Rattle.automata.specs.Automaton.{Meaning, Production, all_below, Closed}
 use Rattle.automata.specs.Reading.{upto}
 use Rattle.automata.specs.Measure.{Ops, Laws}
 use Rattle.automata.specs.Worth.{sum, worth, children_worth, row_worth}
-use Rattle.automata.specs.Table.{Lines, cells_worth, cells_row, cells_node}
+use Rattle.automata.specs.Table.{Within, Lines, cells_worth, cells_row, cells_node}
 use Rattle.automata.proofs.Sums.{plus_none_right, sum_append, sum_below}
 use Rattle.automata.proofs.ByRows.{worth_by_rows}
 
-pub below_at : (n : ℕ) (cs : List ℕ) (i : ℕ) → all_below n cs ≡ true → i < length cs → get_or cs i 0 < n
-below_at n [] i e h = absurd (omega arith)
-below_at n (c ∷ cs) zero e h = ltb-true c n (and_parts (ltb c n) (all_below n cs) e).0
-below_at n (c ∷ cs) (suc i) e h = below_at n cs i (and_parts (ltb c n) (all_below n cs) e).1 (omega arith)
+-- the test of each child, as an iterator makes it
+pub below_all : (n : ℕ) (cs : List ℕ) → all_below n cs ≡ list_all (λ c. ltb c n) cs
+below_all n [] = refl
+below_all n (c ∷ cs) = ap (λ b. ltb c n && b) (below_all n cs)
 
 pub line_end : (p n : ℕ) → (p + 1) * n ≡ p * n + n
 line_end p n = add-mul p 1 n ∙ ap (λ k. p * n + k) (one-mul n)
@@ -22,26 +23,28 @@ line_end p n = add-mul p 1 n ∙ ap (λ k. p * n + k) (one-mul n)
 pub cell_in : (p n c len : ℕ) → (p + 1) * n ≤ len → c < n → p * n + c < len
 cell_in p n c len h k = let e = line_end p n in omega arith
 
--- a child of the row at hand
-pub child_at : (n k i : ℕ) (cs : List ℕ) → all_below n (take k cs) ≡ true → i < length (take k cs) → (get_or cs i 0 < n) × (get_or (take k cs) i 0 ≡ get_or cs i 0)
-child_at n k i cs e h =
-    let l = length-take k cs in
-    let q : get_or (take k cs) i 0 ≡ get_or cs i 0 = get_or-take k cs i 0 (omega arith) in
-    (subst (λ (x : ℕ). x < n) q (below_at n (take k cs) i e h), q)
-
 module _ {M : Type 0} {o : Ops M} (laws : Laws o) where
-  pub times_unit_right : (x : M) → o.times x o.unit ≡ x
-  times_unit_right x = laws.times_comm x o.unit ∙ laws.times_unit x
+  -- the places ps and the states cs are left, and x is the product so far of what is w in all
+  abbrev pub Left : List M → ℕ → M → List ℕ → List ℕ → M → Type 0
+  Left cells n x ps cs w = (o.times x (cells_worth o cells n ps cs) ≡ w) × Within n (length cells) ps × (all_below n cs ≡ true) × (length ps ≡ length cs)
 
-  pub cells_more : (cells : List M) (n : ℕ) (ps cs : List ℕ) (i : ℕ) (x y : M) → i < length ps → i < length cs → y ≡ o.times x (get_or cells (get_or ps i 0 * n + get_or cs i 0) o.none)
-      → o.times y (cells_worth o cells n (drop (i + 1) ps) (drop (i + 1) cs)) ≡ o.times x (cells_worth o cells n (drop i ps) (drop i cs))
-  cells_more cells n ps cs i x y hp hc e =
-      let z = get_or cells (get_or ps i 0 * n + get_or cs i 0) o.none in
-      let r = cells_worth o cells n (drop (i + 1) ps) (drop (i + 1) cs) in
-      ap (λ v. o.times v r) e ∙ laws.times_assoc x z r ∙ ap (o.times x) (sym (ap₂ (cells_worth o cells n) (drop_more ps i 0 hp) (drop_more cs i 0 hc)))
+  pub left_cell : (cells : List M) (n : ℕ) (x w : M) (ps cs : List ℕ) (p c : ℕ) (ps' cs' : List ℕ) → ps ≡ p ∷ ps' → cs ≡ c ∷ cs' → Left cells n x ps cs w → p * n + c < length cells
+  left_cell cells n x w ps cs p c ps' cs' ep ec h =
+      let b : all_below n (c ∷ cs') ≡ true = subst (λ (cs : List ℕ). all_below n cs ≡ true) ec h.2 in
+      let l : Within n (length cells) (p ∷ ps') = subst (λ (ps : List ℕ). Within n (length cells) ps) ep h.1 in
+      cell_in p n c (length cells) (l 0 (omega arith)) (ltb-true c n (and_parts (ltb c n) (all_below n cs') b).0)
 
-  pub cells_end : (cells : List M) (n : ℕ) (ps cs : List ℕ) (i : ℕ) (x : M) → length ps ≤ i → length cs ≤ i → o.times x (cells_worth o cells n (drop i ps) (drop i cs)) ≡ x
-  cells_end cells n ps cs i x hp hc = ap (o.times x) (ap₂ (cells_worth o cells n) (drop_all i ps hp) (drop_all i cs hc)) ∙ times_unit_right x
+  pub left_more : (cells : List M) (n : ℕ) (x y w : M) (ps cs : List ℕ) (p c : ℕ) (ps' cs' : List ℕ) → ps ≡ p ∷ ps' → cs ≡ c ∷ cs' → Left cells n x ps cs w
+      → y ≡ o.times x (get_or cells (p * n + c) o.none) → Left cells n y ps' cs' w
+  left_more cells n x y w ps cs p c ps' cs' ep ec h e =
+      let b : all_below n (c ∷ cs') ≡ true = subst (λ (cs : List ℕ). all_below n cs ≡ true) ec h.2 in
+      let l : Within n (length cells) (p ∷ ps') = subst (λ (ps : List ℕ). Within n (length cells) ps) ep h.1 in
+      let r = cells_worth o cells n ps' cs' in (
+        ap (λ v. o.times v r) e ∙ laws.times_assoc x (get_or cells (p * n + c) o.none) r ∙ ap (o.times x) (sym (ap₂ (cells_worth o cells n) ep ec)) ∙ h.0,
+        (λ i k. l (suc i) (omega arith)),
+        (and_parts (ltb c n) (all_below n cs') b).1,
+        omega (arith, h.3, ap length ep, ap length ec),
+      )
 
   -- one row more
   pub sum_more : (f : ℕ → M) (k : ℕ) → sum o f (upto (k + 1)) ≡ o.plus (sum o f (upto k)) (f k)
@@ -99,23 +102,37 @@ module _ {M : Type 0} {o : Ops M} (laws : Laws o) where
       let F : ℕ → M = λ j. cells_row o cells m.states ps f (m.row s j) in
       ey ∙ ex ∙ sym (plus_none_right laws (sum o F (upto k))) ∙ ap (λ r. o.plus (sum o F (upto k)) (cells_row o cells m.states ps f r)) er ∙ sym (sum_more F k)
 
-  -- the line at base is filled below state s, and nothing else is changed
-  abbrev pub Filled : Meaning → List M → List ℕ → ℕ → ℕ → List M → ℕ → Type 0
-  Filled m xs ps f base ys s =
-      ((ts : Tickets) → Lines o m xs ps ts → (j : ℕ) → j < s → get_or ys (base + j) o.none ≡ worth o m j (node f ts))
-      × ((i : ℕ) → i < base → get_or ys i o.none ≡ get_or xs i o.none)
-      × ((i : ℕ) → base + s ≤ i → get_or ys i o.none ≡ get_or xs i o.none)
+  -- the line is filled below state s, by the lines in xs, and what was there stands from s on
+  abbrev pub Filled : Meaning → List M → List ℕ → ℕ → List M → List M → ℕ → Type 0
+  Filled m xs ps f was ys s =
+      ((ts : Tickets) → Lines o m xs ps ts → (j : ℕ) → j < s → get_or ys j o.none ≡ worth o m j (node f ts)) × ((i : ℕ) → s ≤ i → get_or ys i o.none ≡ get_or was i o.none)
 
-  pub filled_more : (m : Meaning) → ((s k : ℕ) → Closed m.states (m.row s k)) → (xs : List M) (ps : List ℕ) (f p base : ℕ) (ys : List M) (s : ℕ) (w : M) → base ≡ p * m.states → base + s < length ys
-      → ((i : ℕ) → i < length ps → get_or ps i 0 < p) → w ≡ cells_node o m ys ps f s → Filled m xs ps f base ys s → Filled m xs ps f base (set ys (base + s) w) (s + 1)
-  filled_more m closed xs ps f p base ys s w eb lt early ew inv =
-      (λ ts h j l. go ts h j l (cases_eq j s), λ i l. other i (omega arith) ∙ inv.1 i l, λ i l. other i (omega arith) ∙ inv.2 i (omega arith))
+  pub filled_more : (m : Meaning) → ((s k : ℕ) → Closed m.states (m.row s k)) → (xs : List M) (ps : List ℕ) (f : ℕ) (was ys : List M) (s : ℕ) (w : M) → s < length ys → w ≡ cells_node o m xs ps f s
+      → Filled m xs ps f was ys s → Filled m xs ps f was (set ys s w) (s + 1)
+  filled_more m closed xs ps f was ys s w lt ew inv = (λ ts h j l. go ts h j l (cases_eq j s), λ i l. other i (omega arith) ∙ inv.1 i (omega arith))
     where
-      other : (i : ℕ) → (i ≡ base + s → ⊥) → get_or (set ys (base + s) w) i o.none ≡ get_or ys i o.none
-      other i ne = get_or-set_other ys (base + s) i w o.none ne
+      other : (i : ℕ) → (i ≡ s → ⊥) → get_or (set ys s w) i o.none ≡ get_or ys i o.none
+      other i ne = get_or-set_other ys s i w o.none ne
 
-      go : (ts : Tickets) → Lines o m xs ps ts → (j : ℕ) → j < s + 1 → (j ≡ s) ⊎ (j ≡ s → ⊥) → get_or (set ys (base + s) w) (base + j) o.none ≡ worth o m j (node f ts)
-      go ts h j l (inl e) =
-          ap (λ k. get_or (set ys (base + s) w) (base + k) o.none) e ∙ get_or-set_same ys (base + s) w o.none lt ∙ ew
-          ∙ lines_node m closed ys ps ts f s (lines_kept m xs ys p ps ts early (λ i k. inv.1 i (omega arith)) h) ∙ ap (λ k. worth o m k (node f ts)) (sym e)
-      go ts h j l (inr ne) = other (base + j) (omega arith) ∙ inv.0 ts h j (omega arith)
+      go : (ts : Tickets) → Lines o m xs ps ts → (j : ℕ) → j < s + 1 → (j ≡ s) ⊎ (j ≡ s → ⊥) → get_or (set ys s w) j o.none ≡ worth o m j (node f ts)
+      go ts h j l (inl e) = ap (λ k. get_or (set ys s w) k o.none) e ∙ get_or-set_same ys s w o.none lt ∙ ew ∙ lines_node m closed xs ps ts f s h ∙ ap (λ k. worth o m k (node f ts)) (sym e)
+      go ts h j l (inr ne) = other j ne ∙ inv.0 ts h j (omega arith)
+
+  -- the line in its place, behind the lines before it
+  module _ (m : Meaning) (xs : List M) (ps : List ℕ) (f p : ℕ) (earlier was ys : List M) (n : ℕ) (ee : earlier ≡ take (p * m.states) xs) (ew : was ≡ drop (p * m.states) xs) (en : n ≡ m.states) (room : p * m.states ≤ length xs)
+      (inv : Filled m earlier ps f was ys n) where
+    behind : (k : ℕ) → get_or (earlier ++ ys) (p * m.states + k) o.none ≡ get_or ys k o.none
+    behind k =
+        let e : length earlier ≡ p * m.states = omega (arith, ap length ee, length-take (p * m.states) xs) in
+        ap (λ n. get_or (earlier ++ ys) (n + k) o.none) (sym e) ∙ get_or-append-add earlier ys k o.none
+
+    pub line_filled : ((i : ℕ) → i < length ps → get_or ps i 0 < p) → (ts : Tickets) → Lines o m xs ps ts → (s : ℕ) → s < m.states → get_or (earlier ++ ys) (p * m.states + s) o.none ≡ worth o m s (node f ts)
+    line_filled before ts h s l =
+        behind s ∙ inv.0 ts (lines_kept m xs earlier p ps ts before (λ i k. ap (λ zs. get_or zs i o.none) ee ∙ get_or-take (p * m.states) xs i o.none k) h) s (omega arith)
+
+    pub line_after : (i : ℕ) → (p + 1) * m.states ≤ i → get_or (earlier ++ ys) i o.none ≡ get_or xs i o.none
+    line_after i l =
+        let k = i - p * m.states in
+        let past : n ≤ k = omega (arith, line_end p m.states) in
+        let e : p * m.states + k ≡ i = omega (arith, line_end p m.states) in
+        ap (λ j. get_or (earlier ++ ys) j o.none) (sym e) ∙ behind k ∙ inv.1 k past ∙ ap (λ zs. get_or zs k o.none) ew ∙ get_or-drop (p * m.states) xs k o.none ∙ ap (λ j. get_or xs j o.none) e

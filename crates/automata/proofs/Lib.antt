@@ -7,3 +7,4 @@ pub mod Subtrees
 pub mod Sampled
 pub mod Cells
 pub mod Tables
+pub mod Mapped

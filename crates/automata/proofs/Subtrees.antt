@@ -1,12 +1,13 @@
 -- The subtree at a node place.
-use Rattle.std.proofs.Common.{◌≡◌, ℕ, zero, suc, ◌+◌, ◌-◌, ◌<◌, ◌≤◌, ◌⊎◌, List, [], ◌∷◌, ◌++◌, length, take, Some, None, sym, ap, ◌∙◌, subst, inl, inr, ⊎_elim, append-nil, zero-add, arith, length-append}
+use Rattle.std.proofs.Common.{◌≡◌, ℕ, zero, suc, ◌+◌, ◌-◌, ◌<◌, ◌≤◌, ◌⊎◌, List, [], ◌∷◌, ◌++◌, length, take, Some, None, Err, sym, refl, ap, ◌∙◌, subst, inl, inr, ⊎_elim, append-nil, zero-add, arith, length-append}
 use Rattle.std.proofs.lemmas.List.{take-append-le, take_all}
-use Rattle.std.proofs.lemmas.Bool.{lt-ltb, le-ltb, eq-eqb, ne_eqb, cond-true, cond-false, cases_lt}
+use Rattle.std.proofs.lemmas.Bool.{true≢false, lt-ltb, le-ltb, eq-eqb, ne_eqb, cond-true, cond-false, cases_lt}
+use Rattle.refusals.specs.declared.refusal.WorthRefusal.{WorthRefusal}
 use Rattle.tickets.specs.Ticket.{Ticket, Tickets, node, nil, cons, postfix, postfix_all, Formed, FormedAll, subtree, subtree_of}
 use Rattle.tickets.specs.Check.{join, last, forest}
 use Rattle.automata.specs.Automaton.{Meaning}
 use Rattle.automata.specs.Measure.{Ops}
-use Rattle.automata.specs.Table.{prefix_tree, Line, HoldsWorths}
+use Rattle.automata.specs.Table.{prefix_tree, Line, HoldsWorths, FillsScratch}
 use Rattle.tickets.proofs.Forests.{last_join, forest_run}
 
 take_past : (xs ys : List ℕ) (m n : ℕ) → m ≡ length xs + n → take m (xs ++ ys) ≡ xs ++ take n ys
@@ -80,3 +81,7 @@ holds_worths o m cells a t h lines p u e = ⊎_elim inside (λ k. absurd (none (
 
     none : None ≡ Some u → ⊥
     none q = let z : ◌≡◌ {A = ℕ} 0 1 = cc in omega arith
+
+-- a refusal leaves the scratch as it was
+pub fills_refused : {M : Type 0} (o : Ops M) (m : Meaning) (t : Ticket) (e : WorthRefusal) (cells : List M) → FillsScratch o m t (Err e) cells cells
+fills_refused o m t e cells = record { cells = λ h. absurd (true≢false (sym h)); beyond = λ h. absurd (true≢false (sym h)); same = λ h. refl }

@@ -1,6 +1,6 @@
 -- The table of worths, node by node.
-use Rattle.std.proofs.Common.{◌≡◌, ℕ, zero, suc, ◌+◌, ◌-◌, ◌*◌, ◌<◌, ◌≤◌, Bool, true, false, cond, ltb, ◌⊎◌, List, [], ◌∷◌, ◌++◌, length, get_or, take, drop, set, is_ok, Ok, Err, Result, sym, refl, ap, ◌∙◌, subst, inl, inr, mul-le-mul_right, add-one, arith}
-use Rattle.std.proofs.lemmas.List.{drop_more, take_more, take-take, drop-take, take_more_set, length-set}
+use Rattle.std.proofs.Common.{◌≡◌, ℕ, zero, suc, ◌+◌, ◌-◌, ◌*◌, ◌<◌, ◌≤◌, Bool, true, false, cond, ltb, ◌⊎◌, List, [], ◌∷◌, ◌++◌, length, get_or, take, drop, is_ok, Ok, Err, Result, sym, refl, ap, ◌∙◌, subst, inl, inr, mul-le-mul_right, add-one, arith}
+use Rattle.std.proofs.lemmas.List.{drop_more, take_more, take_all, length_push, length-take, length-drop}
 use Rattle.std.proofs.lemmas.Bool.{ltb-false, cases_eq}
 use Rattle.refusals.specs.declared.refusal.TicketRefusal.{TicketRefusal}
 use Rattle.refusals.specs.declared.refusal.TicketRefusal.TheVariants.{Long}
@@ -71,24 +71,24 @@ module _ (a ns : List ℕ) where
   pub forest_more : (p : ℕ) → p < length ns → forest a nil (take (p + 1) ns) ≡ grown a (forest a nil (take p ns)) (get_or ns p 0)
   forest_more p h = ap (forest a nil) (take_more ns p 0 h) ∙ forest_append a (take p ns) (get_or ns p 0 ∷ []) nil
 
-  -- the check goes on from place p with d trees, whose places stand in roots
-  abbrev pub Stage : ℕ → List ℕ → ℕ → Type 0
-  Stage p roots d =
-      (scan a p d (drop p ns) ≡ Ok tt) × (d ≡ count (forest a nil (take p ns))) × Spots a ns p (take d roots) (forest a nil (take p ns)) × (d ≤ p) × (length roots ≡ 256)
+  -- the check goes on from place p with the trees whose places are the roots
+  abbrev pub Stage : ℕ → List ℕ → Type 0
+  Stage p roots = (scan a p (length roots) (drop p ns) ≡ Ok tt) × (length roots ≡ count (forest a nil (take p ns))) × Spots a ns p roots (forest a nil (take p ns)) × (length roots ≤ p)
 
-  pub stage_node : (p d : ℕ) (roots : List ℕ) → p < length ns → Stage p roots d → (get_or ns p 0 < length a) × (get_or a (get_or ns p 0) 0 ≤ d) × (scan a (p + 1) (d - get_or a (get_or ns p 0) 0 + 1) (drop (p + 1) ns) ≡ Ok tt)
-  stage_node p d roots l h = scan_first a p d (get_or ns p 0) (drop (p + 1) ns) (sym (ap (scan a p d) (drop_more ns p 0 l)) ∙ h.0)
+  pub stage_node : (p : ℕ) (roots : List ℕ) → p < length ns → Stage p roots
+      → (get_or ns p 0 < length a) × (get_or a (get_or ns p 0) 0 ≤ length roots) × (scan a (p + 1) (length roots - get_or a (get_or ns p 0) 0 + 1) (drop (p + 1) ns) ≡ Ok tt)
+  stage_node p roots l h = scan_first a p (length roots) (get_or ns p 0) (drop (p + 1) ns) (sym (ap (scan a p (length roots)) (drop_more ns p 0 l)) ∙ h.0)
 
   abbrev pub taken : ℕ → ℕ → ℕ
   taken p d = d - get_or a (get_or ns p 0) 0
 
-  pub stage_spots : (p d : ℕ) (roots : List ℕ) → p < length ns → Stage p roots d
-      → Spots a ns p (take (d - taken p d) (drop (taken p d) roots)) (rest (taken p d) (forest a nil (take p ns)))
-  stage_spots p d roots l h =
-      let k = taken p d in
+  -- the places of the node's children are the last roots
+  pub stage_spots : (p n : ℕ) (roots xs : List ℕ) → n ≡ length roots → xs ≡ roots → Stage p roots → Spots a ns p (take (length xs - taken p n) (drop (taken p n) xs)) (rest (taken p n) (forest a nil (take p ns)))
+  stage_spots p n roots xs en ex h =
+      let k = taken p n in
       let T = forest a nil (take p ns) in
-      let e : k + (d - k) ≡ d = omega arith in
-      subst (λ (xs : List ℕ). Spots a ns p xs (rest k T)) (ap (λ n. drop k (take n roots)) (sym e) ∙ drop-take k (d - k) roots) (spots_rest p k (take d roots) T h.2)
+      let all : take (length roots - k) (drop k roots) ≡ drop k roots = take_all (length roots - k) (drop k roots) (omega (arith, length-drop k roots)) in
+      subst (λ (ys : List ℕ). Spots a ns p ys (rest k T)) (sym (ap (λ (ys : List ℕ). take (length ys - k) (drop k ys)) ex ∙ all)) (spots_rest p k roots T h.2)
 
   pub prefix_tree_at : (p d : ℕ) → p < length ns → d ≡ count (forest a nil (take p ns)) → prefix_tree a ns p ≡ node (get_or ns p 0) (rest (taken p d) (forest a nil (take p ns)))
   prefix_tree_at p d l e =
@@ -97,22 +97,22 @@ module _ (a ns : List ℕ) where
       ap (λ n. tree a (take n ns)) (sym (add-one p)) ∙ ap last (forest_more p l)
       ∙ last_join (first (count T - get_or a f 0) T) (node f (rest (count T - get_or a f 0) T)) ∙ ap (λ n. node f (rest (n - get_or a f 0) T)) (sym e)
 
-  pub stage_more : (p d : ℕ) (roots : List ℕ) → p < length ns → length ns ≤ 256 → Stage p roots d → Stage (p + 1) (set roots (taken p d) p) (taken p d + 1)
-  stage_more p d roots l few h =
-      let k = taken p d in
+  -- the node is a root in their place
+  pub stage_more : (p n : ℕ) (roots ys : List ℕ) → p < length ns → n ≡ length roots → ys ≡ take (taken p n) roots ++ p ∷ [] → Stage p roots → Stage (p + 1) ys
+  stage_more p n roots ys l en ey h =
+      let k = taken p n in
       let T = forest a nil (take p ns) in
       let f = get_or ns p 0 in
-      let s = stage_node p d roots l h in
-      let e : count T - get_or a f 0 ≡ k = ap (λ n. n - get_or a f 0) (sym h.1) in
-      let lt : k < length roots = omega (arith, h.3, h.4) in
-      let c : k + 1 ≡ count (forest a nil (take (p + 1) ns)) = sym (ap count (forest_more p l) ∙ grown_count a T f ∙ ap (λ n. n + 1) e) in
+      let s = stage_node p roots l h in
+      let ek : length roots - get_or a f 0 ≡ k = ap (λ m. m - get_or a f 0) (sym en) in
+      let e : count T - get_or a f 0 ≡ k = ap (λ m. m - get_or a f 0) (sym h.1) ∙ ek in
+      let m : length ys ≡ k + 1 = omega (arith, ap length ey, length_push (take k roots) p, length-take k roots) in
+      let c : k + 1 ≡ count (forest a nil (take (p + 1) ns)) = sym (ap count (forest_more p l) ∙ grown_count a T f ∙ ap (λ m. m + 1) e) in
       let g : join (first k T) (cons (node f (rest k T)) nil) ≡ forest a nil (take (p + 1) ns) =
-      ap (λ n. join (first n T) (cons (node f (rest n T)) nil)) (sym e) ∙ sym (forest_more p l) in
-      let kd : k ≤ d = omega arith in
-      let x : take k (take d roots) ++ (p ∷ []) ≡ take (k + 1) (set roots k p) = ap (λ ys. ys ++ (p ∷ [])) (take-take k d roots kd) ∙ sym (take_more_set roots k p lt) in
-      let r : Spots a ns (p + 1) (take k (take d roots) ++ (p ∷ [])) (join (first k T) (cons (node f (rest k T)) nil)) =
-      spots_push p (take k (take d roots)) (first k T) (node f (rest k T)) (spots_first p k (take d roots) T h.2) (prefix_tree_at p d l h.1) in
-      (s.2, c, subst (λ (us : Tickets). Spots a ns (p + 1) (take (k + 1) (set roots k p)) us) g (subst (λ (ys : List ℕ). Spots a ns (p + 1) ys (join (first k T) (cons (node f (rest k T)) nil))) x r), omega (arith, h.3), length-set roots k p ∙ h.4)
+      ap (λ m. join (first m T) (cons (node f (rest m T)) nil)) (sym e) ∙ sym (forest_more p l) in
+      let r : Spots a ns (p + 1) (take k roots ++ p ∷ []) (join (first k T) (cons (node f (rest k T)) nil)) =
+      spots_push p (take k roots) (first k T) (node f (rest k T)) (spots_first p k roots T h.2) (prefix_tree_at p n l (en ∙ h.1)) in
+      (ap (λ d. scan a (p + 1) d (drop (p + 1) ns)) (m ∙ ap (λ d. d + 1) (sym ek)) ∙ s.2, m ∙ c, subst (λ (us : Tickets). Spots a ns (p + 1) ys us) g (subst (λ (zs : List ℕ). Spots a ns (p + 1) zs (join (first k T) (cons (node f (rest k T)) nil))) (sym ey) r), omega (arith, h.3))
 
   -- one line more
   pub lines_more : {M : Type 0} (o : Ops M) (m : Meaning) (xs ys : List M) (p : ℕ) → ((q : ℕ) → q < p → Line o m xs q (prefix_tree a ns q)) → ((i : ℕ) → i < p * m.states → get_or ys i o.none ≡ get_or xs i o.none) → Line o m ys p (prefix_tree a ns p)

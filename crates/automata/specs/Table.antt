@@ -1,5 +1,5 @@
 -- The table of worths in the scratch: a line for each node, and in it a cell for each state.
-use Rattle.std.specs.Prelude.{◌≡◌, ℕ, suc, ◌+◌, ◌*◌, ◌<◌, ◌≤◌, cond, ◌&&◌, List, [], ◌∷◌, length, take, Some, None, Ok, Err, Option, Result, ◌==◌, nat_lt, slice_index, slice_index_or}
+use Rattle.std.specs.Prelude.{◌≡◌, ℕ, suc, ◌+◌, ◌*◌, ◌<◌, ◌≤◌, true, false, cond, ◌&&◌, List, [], ◌∷◌, length, take, drop, is_ok, Some, None, Ok, Err, Option, Result, ◌==◌, nat_lt, slice_index, slice_index_or}
 use Rattle.refusals.specs.declared.refusal.WorthRefusal.{WorthRefusal}
 use Rattle.refusals.specs.declared.refusal.WorthRefusal.TheVariants.{Start, Scratch}
 use Rattle.tickets.specs.Ticket.{Ticket, Tickets, nil, cons, postfix, subtree}
@@ -55,3 +55,9 @@ module _ {M : Type 0} (o : Ops M) where
   abbrev pub worth_answer : Meaning → Ticket → ℕ → ℕ → Result M WorthRefusal
   worth_answer m t start room =
       cond (nat_lt start m.states) (cond (nat_lt room (cells_needed m t)) (Err Scratch) (Ok (worth o m start t))) (Err Start)
+
+  -- what a worth leaves in the scratch: with a result the worths of the ticket's subtrees, and beyond them what was there; with a refusal all that was there
+  pub record FillsScratch (m : Meaning) (t : Ticket) (r : Result M WorthRefusal) (old new : List M) : Type 0 where
+    pub cells : is_ok r ≡ true → HoldsWorths m t new
+    pub beyond : is_ok r ≡ true → drop (cells_needed m t) new ≡ drop (cells_needed m t) old
+    pub same : is_ok r ≡ false → new ≡ old

@@ -4,19 +4,15 @@ ghost use Rattle.automata.specs.Measure.{Ops, Laws};
 
 // What readings are worth: a commutative semiring with a value for each number of points.
 pub trait Measure: Copy {
+    ghost NONE: { Self };
+
     const NONE: Self;
+
+    ghost UNIT: { Self };
 
     const UNIT: Self;
 
     ghost ops: { Ops Self };
-
-    // `NONE`, with its contract, which generic code does not have of a constant.
-    fn nothing() -> Self
-        ensures { result ≡ ops.none };
-
-    // `UNIT`, with its contract.
-    fn one() -> Self
-        ensures { result ≡ ops.unit };
 
     fn plus(self, other: Self) -> Self
         ensures { result ≡ ops.plus self other };
@@ -29,4 +25,8 @@ pub trait Measure: Copy {
         ensures { result ≡ ops.value points };
 
     ghost lawful: { Laws ops };
+
+    ghost none_is: { NONE ≡ ops.none };
+
+    ghost unit_is: { UNIT ≡ ops.unit };
 }

@@ -1,5 +1,5 @@
 // The three measures.
-ghost use Rattle.std.specs.Prelude.{◌≡◌};
+ghost use Rattle.std.specs.Prelude.{◌≡◌, refl};
 ghost use Rattle.automata.specs.Measures.{yes_no, reading_count, fewest_points};
 ghost use Rattle.automata.specs.Worth.{YesAccepts, CountsReadings, FewestOfReadings};
 ghost use Rattle.std.proofs.Common.{rules};
@@ -11,7 +11,11 @@ use crate::reading_count::ReadingCount;
 use crate::yes_no::YesNo;
 
 impl Measure for YesNo {
+    ghost NONE = { yes_no.none };
+
     const NONE: YesNo = YesNo { yes: false };
+
+    ghost UNIT = { yes_no.unit };
 
     const UNIT: YesNo = YesNo { yes: true };
 
@@ -19,13 +23,9 @@ impl Measure for YesNo {
 
     ghost lawful = { Prim.search rules };
 
-    fn nothing() -> YesNo {
-        Self::NONE
-    }
+    ghost none_is = { refl };
 
-    fn one() -> YesNo {
-        Self::UNIT
-    }
+    ghost unit_is = { refl };
 
     fn plus(self, other: YesNo) -> YesNo {
         YesNo {
@@ -55,7 +55,11 @@ impl YesNo {
 }
 
 impl Measure for ReadingCount {
+    ghost NONE = { reading_count.none };
+
     const NONE: ReadingCount = ReadingCount { count: 0 };
+
+    ghost UNIT = { reading_count.unit };
 
     const UNIT: ReadingCount = ReadingCount { count: 1 };
 
@@ -63,13 +67,9 @@ impl Measure for ReadingCount {
 
     ghost lawful = { count_laws };
 
-    fn nothing() -> ReadingCount {
-        Self::NONE
-    }
+    ghost none_is = { refl };
 
-    fn one() -> ReadingCount {
-        Self::UNIT
-    }
+    ghost unit_is = { refl };
 
     fn plus(self, other: ReadingCount) -> ReadingCount {
         ReadingCount {
@@ -99,7 +99,11 @@ impl ReadingCount {
 }
 
 impl Measure for FewestPoints {
+    ghost NONE = { fewest_points.none };
+
     const NONE: FewestPoints = FewestPoints { points: 65535 };
+
+    ghost UNIT = { fewest_points.unit };
 
     const UNIT: FewestPoints = FewestPoints { points: 0 };
 
@@ -107,13 +111,9 @@ impl Measure for FewestPoints {
 
     ghost lawful = { points_laws };
 
-    fn nothing() -> FewestPoints {
-        Self::NONE
-    }
+    ghost none_is = { refl };
 
-    fn one() -> FewestPoints {
-        Self::UNIT
-    }
+    ghost unit_is = { refl };
 
     fn plus(self, other: FewestPoints) -> FewestPoints {
         FewestPoints {

@@ -1,67 +1,70 @@
 // The worth of a ticket, by a table of the worths of its subtrees from each state.
-ghost use Rattle.std.specs.Prelude.{◌≡◌, ℕ, ◌+◌, ◌*◌, ◌<◌, ◌≤◌, true, false, length, drop, is_ok, Some, slice_index, slice_index_or};
+ghost use Rattle.std.specs.Prelude.{◌≡◌, ℕ, ◌+◌, ◌*◌, ◌<◌, ◌≤◌, true, length, Some, slice_index, slice_index_or};
 ghost use Rattle.tickets.specs.Ticket.{Tickets, node};
 ghost use Rattle.automata.specs.Automaton.{production, shown, all_below};
 ghost use Rattle.automata.specs.Reading.{ReadingsExact};
-ghost use Rattle.tickets.specs.Check.{ticket_checked};
-ghost use Rattle.tickets.specs.Checked.{ticket_of};
+ghost use Rattle.tickets.specs.Checked.{arities_of, nodes_of, ticket_of};
 ghost use Rattle.automata.specs.Worth.{WorthByRows};
-ghost use Rattle.automata.specs.Table.{Within, Line, Lines, cells_worth, cells_row, cells_node, prefix_tree, HoldsWorths, cells_needed, worth_answer};
+ghost use Rattle.automata.specs.Table.{Within, Line, Lines, cells_worth, cells_row, cells_node, prefix_tree, FillsScratch, worth_answer};
 
 use crate::automaton::Automaton;
 use crate::measure::Measure;
-use crate::row::{Row, width};
+use crate::row::Row;
+use arrayvec::ArrayVec;
 use refusals::refusal::WorthRefusal;
 use tickets::checked::CheckedTicket;
 
-// The product of the children's worths, each from its state in the row.
-fn children_worth<M: Measure>(scratch: &[M], states: usize, places: &[u16], row: Row) -> M
-    requires few { states ≤ 1024 }
-    requires within { Within states (length scratch.now) places.now }
-    requires below { all_below states (production row).children ≡ true }
-    requires same { length (production row).children ≡ length places.now }
-    ensures { result ≡ cells_worth M.Measure.ops scratch.now states places.now (production row).children }
-{
-    let mut product = M::one();
-    for (i, place) in places.iter().enumerate() {
-        product = product.times(scratch[*place as usize * states + row.children[i] as usize]);
-    }
-    product
+// The lines of a node's children: their places in a table with a cell for each state.
+#[derive(Drop)]
+struct ChildLines<'a, M> {
+    scratch: &'a [M],
+    states: usize,
+    places: &'a [u16],
+    ghost few: { states ≤ 1024 },
+    ghost within: { Within states (length scratch.now) places.now },
 }
 
-// What a row adds to the worth of a node whose children have their lines at the places.
-fn row_worth<M: Measure>(scratch: &[M], states: usize, places: &[u16], form: u16, row: Row) -> M
-    requires few { states ≤ 1024 }
-    requires within { Within states (length scratch.now) places.now }
-    requires below { all_below states (production row).children ≡ true }
-    ensures { result ≡ cells_row M.Measure.ops scratch.now states places.now form (shown (Some row)) }
-{
-    if row.form == form && width(row) == places.len() {
-        M::value(row.points).times(children_worth(scratch, states, places, row))
-    } else {
-        M::nothing()
+impl<'a, M: Measure> ChildLines<'a, M> {
+    // The product of the children's worths, each from its state.
+    fn children_worth(&self, children: &[u16]) -> M
+        requires below { all_below self.now.states children.now ≡ true }
+        requires same { length children.now ≡ length self.now.places.now }
+        ensures { result ≡ cells_worth M.Measure.ops self.now.scratch.now self.now.states self.now.places.now children.now }
+    {
+        let scratch = self.scratch;
+        let mut product = M::UNIT;
+        for (place, child) in self.places.iter().zip(children) {
+            product = product.times(scratch[*place as usize * self.states + *child as usize]);
+        }
+        product
     }
-}
 
-// The worth of a node from a state: the sum over the places of what their rows add.
-fn node_worth<A: Automaton, M: Measure>(
-    automaton: &A,
-    scratch: &[M],
-    places: &[u16],
-    form: u16,
-    state: usize,
-) -> M
-    requires { Within (A.Automaton.meaning automaton.now).states (length scratch.now) places.now }
-    ensures { result ≡ cells_node M.Measure.ops (A.Automaton.meaning automaton.now) scratch.now places.now form state }
-{
-    let states = automaton.states();
-    let mut sum = M::nothing();
-    for place in 0..automaton.places() {
-        if let Some(row) = automaton.row(state, place) {
-            sum = sum.plus(row_worth(scratch, states, places, form, row));
+    // What a row adds to the worth of a node of a form.
+    fn row_worth(&self, form: u16, row: &Row) -> M
+        requires { all_below self.now.states (production row.now).children ≡ true }
+        ensures { result ≡ cells_row M.Measure.ops self.now.scratch.now self.now.states self.now.places.now form (shown (Some row.now)) }
+    {
+        if row.form == form && row.children().len() == self.places.len() {
+            M::value(row.points).times(self.children_worth(row.children()))
+        } else {
+            M::NONE
         }
     }
-    sum
+
+    // The worth of a node from a state: the sum over the places of what their rows add.
+    fn node_worth<A: Automaton>(&self, automaton: &A, form: u16, state: usize) -> M
+        requires { self.now.states ≡ (A.Automaton.meaning automaton.now).states }
+        ensures { result ≡ cells_node M.Measure.ops (A.Automaton.meaning automaton.now) self.now.scratch.now self.now.places.now form state }
+    {
+        let mut sum = M::NONE;
+        // a loop: a chain would hand the rows on by place all the same, and `fold` would carry the sum in a closure
+        for place in 0..automaton.places() {
+            if let Some(row) = automaton.row(state, place) {
+                sum = sum.plus(self.row_worth(form, &row));
+            }
+        }
+        sum
+    }
 }
 
 // Writes the line of a node, from the lines of its children.
@@ -81,27 +84,32 @@ fn fill_line<A: Automaton, M: Measure>(
 {
     let states = automaton.states();
     let base = place * states;
+    let (earlier, rest) = scratch.split_at_mut(base);
+    let lines = ChildLines {
+        scratch: earlier,
+        states,
+        places,
+    };
+    // by index: after an `iter_mut` over a part of a split slice a proof knows the slice's length, and no cell of it
     for state in 0..states {
-        scratch[base + state] = node_worth(automaton, scratch, places, form, state);
+        rest[state] = lines.node_worth(automaton, form, state);
     }
 }
 
-// Writes the line of each node, children first. The places of the trees so far that no node has taken yet stand in
-// `roots`, of which a ticket has at most as many as nodes.
-fn fill<A: Automaton, M: Measure>(automaton: &A, arities: &[u8], nodes: &[u16], scratch: &mut [M])
-    requires whole { is_ok (ticket_checked arities.now nodes.now) ≡ true }
-    requires room { length nodes.now * (A.Automaton.meaning automaton.now).states ≤ length scratch.old }
-    ensures fills { (p : ℕ) → p < length nodes.now → Line M.Measure.ops (A.Automaton.meaning automaton.now) scratch.new p (prefix_tree arities.now nodes.now p) }
-    ensures keeps { (i : ℕ) → length nodes.now * (A.Automaton.meaning automaton.now).states ≤ i → slice_index_or scratch.new i M.Measure.ops.none ≡ slice_index_or scratch.old i M.Measure.ops.none }
+// Writes the line of each node, children first. The roots are the places of the trees so far that no node has taken yet,
+// of which a ticket has at most as many as nodes.
+fn fill<A: Automaton, M: Measure>(automaton: &A, ticket: &CheckedTicket<'_, '_>, scratch: &mut [M])
+    requires { length (nodes_of ticket.now) * (A.Automaton.meaning automaton.now).states ≤ length scratch.old }
+    ensures fills { (p : ℕ) → p < length (nodes_of ticket.now) → Line M.Measure.ops (A.Automaton.meaning automaton.now) scratch.new p (prefix_tree (arities_of ticket.now.forms) (nodes_of ticket.now) p) }
+    ensures keeps { (i : ℕ) → length (nodes_of ticket.now) * (A.Automaton.meaning automaton.now).states ≤ i → slice_index_or scratch.new i M.Measure.ops.none ≡ slice_index_or scratch.old i M.Measure.ops.none }
 {
-    let mut roots = [0u16; 256];
-    let mut trees = 0;
-    for (place, form) in nodes.iter().enumerate() {
-        let arity = arities[*form as usize] as usize;
-        let first = trees - arity;
-        fill_line(automaton, scratch, &roots[first..trees], *form, place);
-        roots[first] = place as u16;
-        trees = first + 1;
+    let arities = ticket.forms.arities;
+    let mut roots: ArrayVec<u16, 256> = ArrayVec::new();
+    for (place, form) in ticket.nodes.iter().enumerate() {
+        let first = roots.len() - arities[*form as usize] as usize;
+        fill_line(automaton, scratch, &roots[first..], *form, place);
+        roots.truncate(first);
+        roots.push(place as u16);
     }
 }
 
@@ -114,9 +122,7 @@ pub fn worth<A: Automaton, M: Measure>(
     scratch: &mut [M],
 ) -> Result<M, WorthRefusal>
     ensures answers { result ≡ worth_answer M.Measure.ops (A.Automaton.meaning automaton.now) (ticket_of ticket.now) start (length scratch.old) }
-    ensures cells { is_ok result ≡ true → HoldsWorths M.Measure.ops (A.Automaton.meaning automaton.now) (ticket_of ticket.now) scratch.new }
-    ensures beyond { is_ok result ≡ true → drop (cells_needed (A.Automaton.meaning automaton.now) (ticket_of ticket.now)) scratch.new ≡ drop (cells_needed (A.Automaton.meaning automaton.now) (ticket_of ticket.now)) scratch.old }
-    ensures same { is_ok result ≡ false → scratch.new ≡ scratch.old }
+    ensures fills { FillsScratch M.Measure.ops (A.Automaton.meaning automaton.now) (ticket_of ticket.now) result scratch.old scratch.new }
     ensures by_rows { WorthByRows M.Measure.ops }
     ensures listed { ReadingsExact }
 {
@@ -128,6 +134,6 @@ pub fn worth<A: Automaton, M: Measure>(
     if scratch.len() < nodes * states {
         return Err(WorthRefusal::Scratch);
     }
-    fill(automaton, ticket.forms.arities, ticket.nodes, scratch);
+    fill(automaton, ticket, scratch);
     Ok(scratch[(nodes - 1) * states + start])
 }

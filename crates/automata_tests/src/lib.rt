@@ -10,8 +10,8 @@ mod tests {
     use automata::reading_count::ReadingCount;
     use automata::worth::worth;
     use automata::yes_no::YesNo;
-    use refusals::refusal::{PileRefusal, Refusal, RegisterRefusal, TicketRefusal, WorthRefusal};
-    use rules::bar::Bar;
+    use refusals::refusal::{PileRefusal, Refusal, RegisterRefusal, TicketRefusal};
+    use rules::bar::{Bar, Nesting};
     use rules::ladder::Ladder;
     use std::test::Fail;
     use tickets::checked::CheckedTicket;
@@ -35,8 +35,7 @@ mod tests {
     #[test]
     fn long_chains(rt: HostRuntime) -> Result<(), Fail> {
         let arities = [0, 1];
-        Forms::check(&arities)?;
-        let forms = Forms::new(&arities);
+        let forms = Forms::checked(&arities)?;
         let mut chain = [1; 256];
         chain[0] = 0;
         assert_eq!(rt; CheckedTicket::check(&forms, &chain), Ok(()));
@@ -52,8 +51,7 @@ mod tests {
     #[test]
     fn wide_node(rt: HostRuntime) -> Result<(), Fail> {
         let arities = [0, 4];
-        Forms::check(&arities)?;
-        let forms = Forms::new(&arities);
+        let forms = Forms::checked(&arities)?;
         assert_eq!(rt; CheckedTicket::check(&forms, &[0, 0, 0, 0, 1]), Ok(()));
         assert_eq!(rt;
             CheckedTicket::check(&forms, &[0, 0, 0, 1]),
@@ -65,8 +63,7 @@ mod tests {
     #[test]
     fn ticket_refusals(rt: HostRuntime) -> Result<(), Fail> {
         let arities = [0, 2, 2];
-        Forms::check(&arities)?;
-        let forms = Forms::new(&arities);
+        let forms = Forms::checked(&arities)?;
         assert_eq!(rt;
             CheckedTicket::check(&forms, &[]),
             Err(TicketRefusal::Empty)
@@ -89,11 +86,18 @@ mod tests {
         Ok(())
     }
 
+    fn below(outer: u16, position: usize, inner: u16) -> Nesting {
+        Nesting {
+            outer,
+            position,
+            inner,
+        }
+    }
+
     #[test]
     fn rule_refusals(rt: HostRuntime) -> Result<(), Fail> {
         let arities = [0, 2];
-        Forms::check(&arities)?;
-        let forms = Forms::new(&arities);
+        let forms = Forms::checked(&arities)?;
         assert_eq!(rt;
             Ladder::check(&forms, 0, &[0, 0]),
             Err(PileRefusal::LadderCount)
@@ -111,15 +115,21 @@ mod tests {
             Err(PileRefusal::HighLevel)
         );
         assert_eq!(rt; Ladder::check(&forms, 8, &[0, 8]), Ok(()));
-        assert_eq!(rt; Bar::check(&forms, 2, 0, 0), Err(PileRefusal::BarForm));
-        assert_eq!(rt; Bar::check(&forms, 1, 2, 0), Err(PileRefusal::BarPosition));
-        assert_eq!(rt; Bar::check(&forms, 1, 1, 1), Ok(()));
+        assert_eq!(rt;
+            Bar::check(&forms, below(2, 0, 0)),
+            Err(PileRefusal::BarForm)
+        );
+        assert_eq!(rt;
+            Bar::check(&forms, below(1, 2, 0)),
+            Err(PileRefusal::BarPosition)
+        );
+        assert_eq!(rt; Bar::check(&forms, below(1, 1, 1)), Ok(()));
         Ok(())
     }
 
     // Whether the automaton's root accepts the ticket.
     fn accepts<A: Automaton>(automaton: &A, ticket: &CheckedTicket<'_, '_>) -> Result<bool, Fail> {
-        let mut scratch = [YesNo::nothing(); 64];
+        let mut scratch = [YesNo::NONE; 64];
         let value = worth(automaton, ticket, automaton.root(), &mut scratch)?;
         Ok(value.yes())
     }
@@ -127,17 +137,15 @@ mod tests {
     #[test]
     fn ladder_examples(rt: HostRuntime) -> Result<(), Fail> {
         let arities = [0, 2, 2];
-        Forms::check(&arities)?;
-        let forms = Forms::new(&arities);
+        let forms = Forms::checked(&arities)?;
         let levels = [0, 2, 1];
-        Ladder::check(&forms, 2, &levels)?;
-        let ladder = Ladder::new(forms, 2, &levels);
+        let ladder = Ladder::checked(forms, 2, &levels)?;
         let up = [LEAF, LEAF, PAIR, LEAF, THEN];
-        CheckedTicket::check(&forms, &up)?;
-        assert!(rt; accepts(&ladder, &CheckedTicket::new(forms, &up))?);
+        let ticket = CheckedTicket::checked(forms, &up)?;
+        assert!(rt; accepts(&ladder, &ticket)?);
         let down = [LEAF, LEAF, THEN, LEAF, PAIR];
-        CheckedTicket::check(&forms, &down)?;
-        assert!(rt; !accepts(&ladder, &CheckedTicket::new(forms, &down))?);
+        let ticket = CheckedTicket::checked(forms, &down)?;
+        assert!(rt; !accepts(&ladder, &ticket)?);
         Ok(())
     }
 
@@ -145,32 +153,27 @@ mod tests {
     #[test]
     fn bar_examples(rt: HostRuntime) -> Result<(), Fail> {
         let arities = [0, 2, 2];
-        Forms::check(&arities)?;
-        let forms = Forms::new(&arities);
-        Bar::check(&forms, PAIR, 1, PAIR)?;
-        let bar = Bar::new(forms, PAIR, 1, PAIR);
+        let forms = Forms::checked(&arities)?;
+        let bar = Bar::checked(forms, below(PAIR, 1, PAIR))?;
         let direct = [LEAF, LEAF, LEAF, PAIR, PAIR];
-        CheckedTicket::check(&forms, &direct)?;
-        assert!(rt; !accepts(&bar, &CheckedTicket::new(forms, &direct))?);
+        let ticket = CheckedTicket::checked(forms, &direct)?;
+        assert!(rt; !accepts(&bar, &ticket)?);
         let deeper = [LEAF, LEAF, LEAF, PAIR, LEAF, THEN, PAIR];
-        CheckedTicket::check(&forms, &deeper)?;
-        assert!(rt; accepts(&bar, &CheckedTicket::new(forms, &deeper))?);
+        let ticket = CheckedTicket::checked(forms, &deeper)?;
+        assert!(rt; accepts(&bar, &ticket)?);
         Ok(())
     }
 
     #[test]
     fn worth_refusals(rt: HostRuntime) -> Result<(), Fail> {
         let arities = [0];
-        Forms::check(&arities)?;
-        let forms = Forms::new(&arities);
+        let forms = Forms::checked(&arities)?;
         let levels = [1];
-        Ladder::check(&forms, 1, &levels)?;
-        let ladder = Ladder::new(forms, 1, &levels);
-        CheckedTicket::check(&forms, &[0])?;
-        let ticket = CheckedTicket::new(forms, &[0]);
+        let ladder = Ladder::checked(forms, 1, &levels)?;
+        let ticket = CheckedTicket::checked(forms, &[0])?;
         let mut none: [ReadingCount; 0] = [];
         assert!(rt; worth(&ladder, &ticket, 0, &mut none).is_err());
-        let mut one = [FewestPoints::nothing(); 1];
+        let mut one = [FewestPoints::NONE; 1];
         assert!(rt; worth(&ladder, &ticket, 1, &mut one).is_err());
         assert_eq!(rt; worth(&ladder, &ticket, 0, &mut one)?.points(), 0);
         Ok(())

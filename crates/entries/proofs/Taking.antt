@@ -1,5 +1,5 @@
 -- What an entry from a line makes of the ledger.
-use Rattle.std.proofs.Common.{◌≡◌, ℕ, ◌+◌, ◌<◌, List, [], length, IfSome, Ok, Err, Result, sym, refl, ap, ◌∙◌, add-zero, arith}
+use Rattle.std.proofs.Common.{◌≡◌, ℕ, ◌+◌, ◌<◌, List, [], length, IfSome, MatchResult, IsErrAnd, Ok, Err, Result, sym, ap, ◌∙◌, add-zero, arith}
 use Rattle.std.proofs.lemmas.List.{length_push, length-set}
 use Rattle.refusals.specs.declared.refusal.Refusal.TheVariants.{Register}
 use Rattle.refusals.specs.declared.refusal.RegisterRefusal.{RegisterRefusal}
@@ -15,6 +15,7 @@ use Rattle.ledger.proofs.LaidOut.{taken_held, refused_held}
 use Rattle.fields.specs.declared.fault.Fault.{Fault}
 use Rattle.fields.specs.Fault.{of_refusal, bind}
 use Rattle.entries.specs.AtLine.{at_register, entering}
+use Rattle.entries.specs.Taken.{Takes, Grows}
 
 abbrev more_forms : Entry → ℕ
 more_forms (add_form a) = 1
@@ -38,32 +39,40 @@ entered_sizes l (strike_row s k) = (sym (add-zero _), length-set l.rows s _ ∙ 
 entered_sizes l (name_root s) = (sym (add-zero _), sym (add-zero _))
 
 -- a taken entry
-pub taken : (o : Open) (after : Ledger) (l : ℕ) (e : Entry) (n : ℕ) → Ok n ≡ entry_answer (held o) e → after ≡ step (held o) (enter e)
-    → (entering l (held o) e ≡ Ok after) × ((length after.arities ≡ length (held o).arities + more_forms e) × (length after.rows ≡ length (held o).rows + more_states e))
+taken : (o : Open) (after : Ledger) (l : ℕ) (e : Entry) (n : ℕ) → entry_answer (held o) e ≡ Ok n → after ≡ step (held o) (enter e)
+    → Takes (entering l (held o) e) (held o) (Ok tt) after × Grows (more_forms e) (more_states e) (held o) (Ok tt) after
 taken o after l e n h s =
-    let done : after ≡ entered (held o) e = s ∙ sym (taken_held o.rows.now o.table e n h) in
+    let done : after ≡ entered (held o) e = s ∙ sym (taken_held o.rows.now o.table e n (sym h)) in
     let sizes = entered_sizes (held o) e in (
-      ap (λ r. bind (at_register l r) (λ _. Ok (step (held o) (enter e)))) (sym h) ∙ ap Ok (sym s),
+      ap (λ r. bind (at_register l r) (λ _. Ok (step (held o) (enter e)))) h ∙ ap Ok (sym s),
       (ap (λ (x : Ledger). length x.arities) done ∙ sizes.0, ap (λ (x : Ledger). length x.rows) done ∙ sizes.1),
     )
 
 -- a refused one
-pub refused : (o : Open) (after : Ledger) (l : ℕ) (e : Entry) (x : RegisterRefusal) (f : Fault) → Err x ≡ entry_answer (held o) e → after ≡ step (held o) (enter e) → f ≡ of_refusal (Register x) l
-    → ((entering l (held o) e ≡ Err f) × (after ≡ held o)) × ((length after.arities ≡ length (held o).arities) × (length after.rows ≡ length (held o).rows))
+refused : (o : Open) (after : Ledger) (l : ℕ) (e : Entry) (x : RegisterRefusal) (f : Fault) → entry_answer (held o) e ≡ Err x → after ≡ step (held o) (enter e) → f ≡ of_refusal (Register x) l
+    → Takes (entering l (held o) e) (held o) (Err f) after × Grows (more_forms e) (more_states e) (held o) (Err f) after
 refused o after l e x f h s ef =
-    let same : after ≡ held o = s ∙ sym (refused_held o.rows.now o.table e x h) in (
-      (ap (λ r. bind (at_register l r) (λ _. Ok (step (held o) (enter e)))) (sym h) ∙ ap Err (sym ef), same),
+    let same : after ≡ held o = s ∙ sym (refused_held o.rows.now o.table e x (sym h)) in (
+      (ap (λ r. bind (at_register l r) (λ _. Ok (step (held o) (enter e)))) h ∙ ap Err (sym ef), same),
       (ap (λ (y : Ledger). length y.arities) same, ap (λ (y : Ledger). length y.rows) same),
     )
 
--- an entry that returns no number
-pub numbered : (r : Result ℕ RegisterRefusal) → Ok tt ≡ unnumbered r → (n : ℕ) × (Ok n ≡ r)
-numbered (Ok n) e = (n, refl)
-numbered (Err x) e = let z : ◌≡◌ {A = ℕ} 0 1 = cc in absurd (omega arith)
+-- r is a call's answer a without its number, and with line l where it is a refusal
+abbrev pub AtLine : {X : Type 0} → ℕ → Result (Unit {0}) Fault → Result X RegisterRefusal → Type 0
+AtLine l r a = MatchResult a (λ _. r ≡ Ok tt) (λ x. IsErrAnd r (λ f. (f.refusal ≡ Register x) × (f ≡ of_refusal f.refusal l)))
 
-pub unnumbered_err : (r : Result ℕ RegisterRefusal) (x : RegisterRefusal) → Err x ≡ unnumbered r → Err x ≡ r
-unnumbered_err (Ok n) x e = let z : ◌≡◌ {A = ℕ} 0 1 = cc in absurd (omega arith)
-unnumbered_err (Err y) x e = let same : x ≡ y = cc in ap Err same
+-- an entry at a line, as its call answers it
+pub entered_at : (o : Open) (after : Ledger) (l : ℕ) (e : Entry) (r : Result (Unit {0}) Fault) (a : Result ℕ RegisterRefusal) → a ≡ entry_answer (held o) e → after ≡ step (held o) (enter e) → AtLine l r a
+    → Takes (entering l (held o) e) (held o) r after × Grows (more_forms e) (more_states e) (held o) r after
+entered_at o after l e (Ok u) (Ok n) h s told = taken o after l e n (sym h) s
+entered_at o after l e (Err f) (Ok n) h s told = absurd (let z : ◌≡◌ {A = ℕ} 0 1 = cc in omega arith)
+entered_at o after l e (Ok u) (Err x) h s told = absurd told
+entered_at o after l e (Err f) (Err x) h s told = refused o after l e x f (sym h) s (told.1 ∙ ap (λ y. of_refusal y l) told.0)
+
+-- an entry that returns no number
+pub numbered_at : (l : ℕ) (r : Result (Unit {0}) Fault) (a : Result ℕ RegisterRefusal) → AtLine l r (unnumbered a) → AtLine l r a
+numbered_at l r (Ok n) told = told
+numbered_at l r (Err x) told = told
 
 -- a refused node is one of the first 256
 pub node_low : (a ns : List ℕ) (r : TicketRefusal) → ticket_checked a ns ≡ Err r → IfSome (ticket_node r) (λ p. p < 256)

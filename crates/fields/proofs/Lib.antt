@@ -1,4 +1,5 @@
 pub mod Walking
+pub mod Tried
 pub mod Cutting
 pub mod Numerals
 pub mod Placed

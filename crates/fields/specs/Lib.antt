@@ -3,3 +3,4 @@ pub mod Parts
 pub mod Words
 pub mod Tokens
 pub mod Names
+pub mod Sentence

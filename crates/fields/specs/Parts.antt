@@ -1,22 +1,16 @@
 -- Lines of a sheet and fields of a line, and what stands before and after a mark.
 use Rattle.std.specs.Prelude.{◌≡◌, ℕ, ◌<◌, cond, List, [], ◌∷◌, ◌++◌, length, Some, None, Option, ◌==◌, ◌≢◌}
-use Rattle.std.specs.List.{AllByRecursion}
+use Rattle.std.specs.List.{AllByRecursion, slice_split, onto_first}
 use Rattle.std.specs.Borrow.{Bor}
-
--- b goes to the front of the first part, which is made where there is none
-abbrev pub grow : ℕ → List (List ℕ) → List (List ℕ)
-grow b [] = (b ∷ []) ∷ []
-grow b (p ∷ ps) = (b ∷ p) ∷ ps
 
 -- each LF (10) ends a line; the last may lack it
 abbrev pub lines : List ℕ → List (List ℕ)
 lines [] = []
-lines (b ∷ bs) = cond (b == 10) ([] ∷ lines bs) (grow b (lines bs))
+lines (b ∷ bs) = cond (b == 10) ([] ∷ lines bs) (onto_first b (lines bs))
 
 -- tabs (9) part the fields
 abbrev pub fields : List ℕ → List (List ℕ)
-fields [] = [] ∷ []
-fields (b ∷ bs) = cond (b == 9) ([] ∷ fields bs) (grow b (fields bs))
+fields bs = slice_split (λ b. b == 9) bs
 
 abbrev pub before : ℕ → List ℕ → List ℕ
 before s [] = []

@@ -38,6 +38,10 @@ head (f ∷ fs) = f
 abbrev pub to_read : Lexer → List (List ℕ)
 to_read l = left (seen l.rest)
 
+-- the number of its line
+abbrev pub line_of : Lexer → ℕ
+line_of l = l.line
+
 -- a word's bytes, and its number
 abbrev pub spelled : Word → List ℕ
 spelled (text f) = f

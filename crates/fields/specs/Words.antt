@@ -1,22 +1,23 @@
 -- Names and numbers, as the bytes of a field.
-use Rattle.std.specs.Prelude.{◌≡◌, ℕ, ◌+◌, ◌-◌, ◌*◌, ◌≤◌, Bool, true, cond, ◌&&◌, ◌||◌, List, [], ◌∷◌, length, Some, None, decimal, Option, ◌==◌, nat_le}
+use Rattle.std.specs.Prelude.{◌≡◌, ℕ, ◌+◌, ◌-◌, ◌*◌, ◌≤◌, Bool, cond, ◌&&◌, ◌||◌, List, [], ◌∷◌, length, Some, None, decimal, Option, ◌==◌, nat_le}
+use Rattle.std.specs.List.{list_all}
 use Rattle.std.specs.Char.{is_ascii_digit, is_ascii_alphabetic}
 
 -- a letter, a digit or a hyphen
 abbrev pub sign : ℕ → Bool
 sign b = is_ascii_alphabetic b || (is_ascii_digit b || b == 45)
 
-abbrev pub all : (ℕ → Bool) → List ℕ → Bool
-all p [] = true
-all p (b ∷ bs) = p b && all p bs
-
 -- 1 to 16 letters, digits or hyphens
 abbrev pub is_name : List ℕ → Bool
-is_name bs = nat_le 1 (length bs) && (nat_le (length bs) 16 && all sign bs)
+is_name bs = nat_le 1 (length bs) && (nat_le (length bs) 16 && list_all sign bs)
 
 -- a byte that may stand in a line
 abbrev pub plain : ℕ → Bool
 plain b = b == 9 || sign b
+
+-- the number n with the digit b after it, if it is one and the number is at most 65,535
+abbrev pub digit_after : ℕ → ℕ → Option ℕ
+digit_after n b = cond (is_ascii_digit b && nat_le (n * 10 + (b - 48)) 65535) (Some (n * 10 + (b - 48))) None
 
 -- the number n with the digits bs after it, if it is at most 65,535
 abbrev pub onward : ℕ → List ℕ → Option ℕ

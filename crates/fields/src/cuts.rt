@@ -7,12 +7,10 @@ pub fn cut<'a>(bytes: &'a [u8], mark: u8) -> (&'a [u8], Option<&'a [u8]>)
     ensures front { result.0.now ≡ before mark bytes.now }
     ensures back { seen result.1 ≡ after mark bytes.now }
 {
-    for i in 0..bytes.len() {
-        if bytes[i] == mark {
-            return (&bytes[0..i], Some(&bytes[i + 1..]));
-        }
+    match bytes.iter().position(|b| *b == mark) {
+        Some(i) => (&bytes[..i], Some(&bytes[i + 1..])),
+        None => (bytes, None),
     }
-    (bytes, None)
 }
 
 // The first line of what is left of a sheet and what follows it, or none where nothing is left.
@@ -23,21 +21,12 @@ pub fn cut_line<'a>(rest: &'a [u8]) -> Option<(&'a [u8], &'a [u8])>
         return None;
     }
     let (line, after) = cut(rest, b'\n');
-    match after {
-        Some(more) => Some((line, more)),
-        None => Some((line, &[])),
-    }
+    Some((line, after.unwrap_or(&[])))
 }
 
 // How many fields a line has.
 pub fn count_fields(line: &[u8]) -> usize
     ensures { result ≡ length (fields line.now) }
 {
-    let mut n = 1;
-    for b in line {
-        if *b == b'\t' {
-            n += 1;
-        }
-    }
-    n
+    line.split(|b| *b == b'\t').count()
 }

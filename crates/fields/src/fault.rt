@@ -1,11 +1,14 @@
 // Faults: a refusal with its line and field; and why reading stops.
-ghost use Rattle.std.specs.Prelude.{◌≡◌};
+ghost use Rattle.std.specs.Prelude.{◌≡◌, Some};
 ghost use Rattle.fields.specs.declared.fault.Stop.TheVariants.{Refused as IsRefused, Memory};
+ghost use Rattle.fields.specs.Sentence.{fault_words};
 ghost use Rattle.fields.specs.Fault.{of_refusal};
 
 use refusals::refusal::Refusal;
 use std::alloc::{AllocError, AllocFailed as NoRoom};
+use std::fmt;
 
+// 0 is no line and no field: the project defines a fault so, and its line of text writes these numbers as they stand.
 #[derive(Clone, Copy, Debug, PartialEq)]
 pub struct Fault {
     pub refusal: Refusal,
@@ -24,6 +27,27 @@ impl Fault {
             refusal,
             line,
             field: 0,
+        }
+    }
+
+    // A refusal of any layer that is of no line.
+    pub fn of_no_line<E: Into<Refusal>>(refusal: E) -> Fault
+        ensures { E.converts refusal result.refusal × (result ≡ of_refusal result.refusal 0) }
+    {
+        Fault::new(refusal.into(), 0)
+    }
+}
+
+// Where the fault is, if it is of a line or a field, and what was wrong, in words for a person.
+impl fmt::Display for Fault {
+    ghost output = { λ f. Some (fault_words f) };
+
+    fn fmt<W: fmt::Write>(&self, f: &mut fmt::Formatter<W>) -> fmt::Result {
+        let why = self.refusal;
+        match (self.line, self.field) {
+            (0, _) => write!(f, "refused: {why}"),
+            (line, 0) => write!(f, "refused at line {line}: {why}"),
+            (line, field) => write!(f, "refused at line {line}, field {field}: {why}"),
         }
     }
 }

@@ -3,5 +3,4 @@
 #![tactic(auto)]
 
 pub mod answer;
-pub mod house;
 mod report;

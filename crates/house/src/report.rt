@@ -1,174 +1,78 @@
-// What the sheet's restrictions make of the house grammar, each by itself, in words for a person.
+// What was read, and what the sheet's restrictions make of the house grammar, each by itself, in words for a person.
 use automata::automaton::Automaton;
-use automata::row::Row;
 use layers::trim::Trim;
 use merge::merge::Merge;
 use product::product::Product;
-use refusals::refusal::Refusal;
-use register::book::Book;
+use refusals::refusal::{PileRefusal, Refusal};
 use register::sealed::Sealed;
-use rules::bar::Bar;
+use reports::grammar::Grammar;
+use reports::levels::highest_level;
+use reports::words::{put_bar, put_read, put_size};
+use rules::bar::{Bar, Nesting};
 use rules::ladder::Ladder;
 use search::line::Line;
 use search::search::search;
-use sheet::notes::Notes;
+use settle::sizes::size_of;
 use std::alloc::{AllocError, Global};
-use tickets::forms::Forms;
 
-// How many states rows reach from the root, and how many rows those have.
-#[derive(Clone, Copy)]
-struct Size {
-    states: usize,
-    rows: usize,
-}
-
-// Adds the row's children that are not seen yet to the queue.
-fn add_children(
-    queue: &mut Vec<usize>,
-    seen: &mut [bool; 1024],
-    row: Row,
-) -> Result<(), AllocError> {
-    for i in 0..4 {
-        let child = row.children[i] as usize;
-        if i < row.arity as usize && child < 1024 && !seen[child] {
-            seen[child] = true;
-            queue.push(child)?;
-        }
-    }
-    Ok(())
-}
-
-fn size_of<A: Automaton>(heap: Global, automaton: &A) -> Result<Size, AllocError> {
-    let mut seen = [false; 1024];
-    let mut queue = Vec::new(heap);
-    let root = automaton.root();
-    if root < 1024 {
-        seen[root] = true;
-    }
-    queue.push(root)?;
-    let mut rows: usize = 0;
-    for i in 0..1024 {
-        let Some(state) = queue.get(i).copied() else {
-            break;
-        };
-        for place in 0..automaton.places() {
-            if let Some(row) = automaton.row(state, place) {
-                rows = rows.saturating_add(1);
-                add_children(&mut queue, &mut seen, row)?;
-            }
-        }
-    }
-    Ok(Size {
-        states: queue.len(),
-        rows,
-    })
-}
-
-fn put_text(out: &mut String, text: &str) -> Result<(), AllocError> {
-    out.push_str(text)?;
-    Ok(())
-}
-
-fn put_size(out: &mut String, heap: Global, name: &str, size: Size) -> Result<(), AllocError> {
-    let states = size.states;
-    let rows = size.rows;
-    let text = format!(in heap; "  {name}: {states} states reached, {rows} rows\n")?;
-    put_text(out, text.as_str())
-}
-
-fn put_refusal(out: &mut String, heap: Global, refusal: Refusal) -> Result<(), AllocError> {
+fn put_refusal(out: &mut String, refusal: Refusal) -> Result<(), AllocError> {
     let layer = refusal.layer();
     let number = refusal.number();
-    let text = format!(in heap; "  refused: {layer} {number}\n")?;
-    put_text(out, text.as_str())
+    write!(out, "  refused: {layer} {number}\n")
 }
 
-// The product of the book with a restriction, its trim and its merge.
+// A pile, its trim and its merge, and whether the root accepts anything.
+fn put_pile<A: Automaton + Drop>(out: &mut String, pile: A) -> Result<(), AllocError> {
+    let heap = *out.allocator();
+    put_size(out, "product", size_of(&pile))?;
+    let trimmed = Trim::new(heap, pile)?;
+    put_size(out, "trimmed", size_of(&trimmed))?;
+    let merged = Merge::new(heap, trimmed)?;
+    put_size(out, "merged", size_of(&merged))?;
+    let mut lines = vec![in heap; Line::default(); merged.states()]?;
+    match search(&merged, merged.root(), &mut lines) {
+        Ok(0) => out.push_str("  nothing is accepted from the root\n"),
+        Ok(_) => out.push_str("  some tickets are accepted from the root\n"),
+        Err(refusal) => put_refusal(out, refusal.into()),
+    }
+}
+
+// The product of the book with a restriction, or why there is none.
 fn put_restricted<R: Automaton + Drop>(
     out: &mut String,
-    heap: Global,
-    book: Book<'_>,
-    rule: R,
+    sealed: &Sealed<'_>,
+    rule: Result<R, PileRefusal>,
 ) -> Result<(), AllocError> {
-    if let Err(refusal) = Product::check(&book, &rule) {
-        return put_refusal(out, heap, Refusal::Pile(refusal));
-    }
-    let product = Product::new(book, rule);
-    put_size(out, heap, "product", size_of(heap, &product)?)?;
-    let trimmed = Trim::new(heap, product)?;
-    put_size(out, heap, "trimmed", size_of(heap, &trimmed)?)?;
-    let merged = Merge::new(heap, trimmed)?;
-    put_size(out, heap, "merged", size_of(heap, &merged)?)?;
-    let mut lines = vec![in heap; Line { state: 0, place: 0 }; merged.states()]?;
-    match search(&merged, merged.root(), &mut lines) {
-        Ok(0) => put_text(out, "  nothing is accepted from the root\n"),
-        Ok(_) => put_text(out, "  some tickets are accepted from the root\n"),
-        Err(refusal) => put_refusal(out, heap, Refusal::Search(refusal)),
+    match rule.and_then(|rule| Product::checked(sealed.book(), rule)) {
+        Ok(product) => put_pile(out, product),
+        Err(refusal) => put_refusal(out, refusal.into()),
     }
 }
 
-fn put_ladder(
-    out: &mut String,
-    heap: Global,
-    sealed: &Sealed<'_>,
-    forms: Forms<'_>,
-    levels: &[u16],
-) -> Result<(), AllocError> {
-    let mut count: usize = 0;
-    for level in levels {
-        count = count.max(*level as usize);
-    }
-    if count == 0 {
+// The ladder of the levels, if one is above 0.
+fn put_by_levels(out: &mut String, sealed: &Sealed<'_>, levels: &[u16]) -> Result<(), AllocError> {
+    let highest = highest_level(levels);
+    if highest == 0 {
         return Ok(());
     }
-    let text = format!(in heap; "ladder of {count}\n")?;
-    put_text(out, text.as_str())?;
-    if let Err(refusal) = Ladder::check(&forms, count, levels) {
-        return put_refusal(out, heap, Refusal::Pile(refusal));
-    }
-    put_restricted(out, heap, sealed.book(), Ladder::new(forms, count, levels))
+    write!(out, "ladder of {highest}\n")?;
+    let ladder = Ladder::checked(sealed.forms(), highest, levels);
+    put_restricted(out, sealed, ladder)
 }
 
-fn put_bar(
-    out: &mut String,
-    heap: Global,
-    sealed: &Sealed<'_>,
-    forms: Forms<'_>,
-    outer: u16,
-    position: u16,
-    inner: u16,
-) -> Result<(), AllocError> {
-    let text = format!(in heap; "bar: form {inner} at position {position} of form {outer}\n")?;
-    put_text(out, text.as_str())?;
-    if let Err(refusal) = Bar::check(&forms, outer, position as usize, inner) {
-        return put_refusal(out, heap, Refusal::Pile(refusal));
-    }
-    put_restricted(
-        out,
-        heap,
-        sealed.book(),
-        Bar::new(forms, outer, position as usize, inner),
-    )
+fn put_by_bar(out: &mut String, sealed: &Sealed<'_>, nesting: Nesting) -> Result<(), AllocError> {
+    put_bar(out, nesting)?;
+    put_restricted(out, sealed, Bar::checked(sealed.forms(), nesting))
 }
 
-// The ladder first, then each bar, each over the house book.
-pub(crate) fn report(
-    heap: Global,
-    sealed: &Sealed<'_>,
-    notes: &Notes,
-) -> Result<String, AllocError> {
+// What was read, the ladder, then each bar, each over the house book.
+pub(crate) fn report(heap: Global, grammar: &Grammar<'_>) -> Result<String, AllocError> {
+    let Grammar { sealed, notes } = grammar;
     let mut out = String::new(heap);
-    put_ladder(&mut out, heap, sealed, sealed.forms(), &notes.levels)?;
-    for bar in notes.bars.iter() {
-        put_bar(
-            &mut out,
-            heap,
-            sealed,
-            sealed.forms(),
-            bar.outer,
-            bar.position,
-            bar.inner,
-        )?;
+    put_read(&mut out, grammar)?;
+    put_by_levels(&mut out, sealed, &notes.levels)?;
+    for bar in &notes.bars {
+        put_by_bar(&mut out, sealed, *bar)?;
     }
     Ok(out)
 }

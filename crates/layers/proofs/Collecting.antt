@@ -1,24 +1,15 @@
--- The steps of the loops that collect rows.
-use Rattle.std.proofs.Common.{◌≡◌, ℕ, zero, suc, ◌+◌, ◌<◌, List, [], ◌∷◌, ◌++◌, map, length, get_or, Some, None, vec_items, Option, Vec, sym, refl, ap, ◌∙◌, subst, ap₂, inl, ⊎_elim, add-one, arith}
+-- A table of rows with one more state, the rows at an index of it, and where the rows of a state come from.
+use Rattle.std.proofs.Common.{◌≡◌, ℕ, zero, suc, ◌+◌, ◌<◌, List, [], ◌∷◌, ◌++◌, map, length, get_or, Some, None, Option, Vec, sym, refl, ap, ◌∙◌, subst, inl, ⊎_elim, arith}
 use Rattle.std.specs.Option.{option_to_list}
 use Rattle.std.specs.declared.alloc.Global.{Global}
-use Rattle.std.proofs.lemmas.List.{append-nil, map_push, length_push, length-map, get_or_append_left, get_or_push, get_or-map}
+use Rattle.std.proofs.lemmas.List.{map_push, length_push, length-map, get_or_append_left, get_or_push, get_or-map}
 use Rattle.std.proofs.lemmas.Bool.{cases_eq}
 use Rattle.automata.specs.declared.row.Row.{Row}
-use Rattle.automata.specs.Automaton.{Meaning, Production, production, shown}
+use Rattle.automata.specs.Automaton.{Meaning, Production}
 use Rattle.automata.specs.Reading.{Member}
 use Rattle.automata.proofs.Members.{member_cases, member_left, member_right}
 use Rattle.automata.specs.Rows.{rows_below, rows_of}
 use Rattle.layers.specs.Rows.{listing, TableTo}
-
-rows_more : (m : Meaning) (q k : ℕ) → rows_below m q (k + 1) ≡ rows_below m q k ++ option_to_list (m.row q k)
-rows_more m q k = rw add-one
-
-pub found_some : (m : Meaning) (q k : ℕ) (v : List Row) (w u : Vec Row Global) (row : Row) → u ≡ w → shown (Some row) ≡ m.row q k → vec_items w ≡ v ++ row ∷ [] → map production v ≡ rows_below m q k → map production (vec_items u) ≡ rows_below m q (k + 1)
-found_some m q k v w u row is e p h = ap (λ z. map production (vec_items z)) is ∙ ap (map production) p ∙ map_push production v row ∙ ap₂ (λ a b. a ++ option_to_list b) h e ∙ sym (rows_more m q k)
-
-pub found_none : (m : Meaning) (q k : ℕ) (v u : Vec Row Global) → u ≡ v → shown None ≡ m.row q k → map production (vec_items v) ≡ rows_below m q k → map production (vec_items u) ≡ rows_below m q (k + 1)
-found_none m q k v u is e h = ap (λ z. map production (vec_items z)) is ∙ h ∙ sym (append-nil _) ∙ ap (λ b. rows_below m q k ++ option_to_list b) e ∙ sym (rows_more m q k)
 
 -- what holds of each element holds after one more is pushed
 pub below_push : {X : Type 0} (P : ℕ → X → Type 0) (xs : List X) (x d : X) (k : ℕ) → length xs ≡ k → ((q : ℕ) → q < k → P q (get_or xs q d)) → P k x → (q : ℕ) → q < k + 1 → P q (get_or (xs ++ x ∷ []) q d)

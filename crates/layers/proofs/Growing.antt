@@ -1,24 +1,22 @@
 -- Marks that grow: by one, by a row's children, and round after round.
-use Rattle.std.proofs.Common.{◌≡◌, ℕ, zero, suc, ◌+◌, ◌-◌, ◌<◌, ◌≤◌, Bool, true, false, cond, ◌⊎◌, List, [], ◌∷◌, ◌++◌, map, length, get_or, take, set, replicate, Some, Decides, sym, refl, ap, ◌∙◌, subst, inl, inr, ⊎_elim, arith, below_more}
-use Rattle.std.specs.List.{AllByRecursion}
-use Rattle.std.proofs.lemmas.List.{length-set, take_more, take_all, map_more, get_or-map, length-map, get_or-replicate, get_or_past, length-replicate, get_or-set_same, get_or-set_other}
-use Rattle.std.proofs.lemmas.Bool.{and_parts, and_from, both_ways, cases_Bool, cases_eq, cases_lt, true≢false}
-use Rattle.automata.specs.Automaton.{Meaning, Production, Sound, all_below}
+use Rattle.std.proofs.Common.{◌≡◌, ℕ, zero, suc, ◌+◌, ◌-◌, ◌<◌, ◌≤◌, Bool, true, false, cond, not, ◌||◌, ◌⊎◌, ◌≢◌, List, [], ◌∷◌, ◌++◌, map, length, get_or, take, Some, Decides, sym, refl, ap, ◌∙◌, subst, inl, inr, ⊎_elim, arith, below_more}
+use mathlib.Core.Path.{fun_ext}
+use Rattle.std.specs.List.{AllByRecursion, list_any}
+use Rattle.std.proofs.lemmas.List.{take_more, take_all, get_or-map, length-map}
+use Rattle.std.proofs.lemmas.Bool.{and_parts, and_from, or_cases, or_parts, or_left, or_right, both_ways, cases_Bool, cases_eq, true≢false}
+use Rattle.std.proofs.ByRecursion.{All-get_or}
+use Rattle.automata.specs.declared.row.Row.{Row}
+use Rattle.automata.specs.Automaton.{Meaning, Production, production, Sound, all_below}
 use Rattle.automata.specs.Reading.{Member}
-use Rattle.automata.proofs.Members.{member_cases}
-use Rattle.layers.specs.Marks.{mark, each_marked, marked, Ready, Unready}
-use Rattle.layers.specs.Marks.{Stuck}
 use Rattle.automata.specs.Rows.{rows_of}
+use Rattle.automata.proofs.Members.{member_cases, member_map}
+use Rattle.layers.specs.Marks.{each_marked, marked, Ready, Unready, Stuck}
 use Rattle.layers.specs.Trim.{Productive, Kept, root, next}
 use Rattle.layers.specs.Growth.{Grows, SomeReady, Led, AllProductive, AllKept, Spread}
-use Rattle.layers.proofs.Marking.{mark_here, mark_other, mark_keeps, marked_le, marked_more, all_from_marked}
+use Rattle.layers.proofs.Marking.{marked_le, marked_more, all_from_marked, marked_from_all}
 use Rattle.layers.proofs.Productives.{usable_productive, place_below, state_below, stuck_productive}
 use Rattle.layers.proofs.Collecting.{rows_member, member_rows}
 use Rattle.layers.proofs.Readiness.{row_within}
-use Rattle.automata.specs.declared.row.Row.{Row}
-use Rattle.automata.specs.Automaton.{production}
-use Rattle.automata.proofs.Members.{member_map}
-use Rattle.std.proofs.ByRecursion.{All-get_or}
 
 bit_keeps : (x y : Bool) → (x ≡ true → y ≡ true) → cond x 1 0 ≤ cond y 1 0
 bit_keeps true true h = omega arith
@@ -34,29 +32,45 @@ pub all_marked_keeps : (f g : ℕ → Bool) → ((s : ℕ) → f s ≡ true → 
 all_marked_keeps f g h [] e = refl
 all_marked_keeps f g h (c ∷ cs) e = let parts = and_parts (f c) (each_marked f cs) e in and_from (g c) (each_marked g cs) (h c parts.0) (all_marked_keeps f g h cs parts.1)
 
-pub grows_none : (a : List Bool) → Grows a a false
-grows_none a = record { long = refl; keeps = λ s e. e; rests = λ _. refl; more = λ e. absurd (true≢false (sym e)) }
+pub grows_none : (f : ℕ → Bool) → Grows f f false
+grows_none f = record { keeps = λ s e. e; rests = λ _. refl; more = λ e. absurd (true≢false (sym e)) }
 
-pub grows_one : (a : List Bool) (s : ℕ) → s < length a → mark a s ≡ false → Grows a (set a s true) true
-grows_one a s l un = record {
-  long = length-set a s true;
-  keeps = mark_keeps a s;
-  rests = λ e. absurd (true≢false e);
-  more = λ _. omega (arith, marked_more a (length a) s (omega arith) l un);
+-- one state is marked, which may be new
+pub grows_one : (f g : ℕ → Bool) (s : ℕ) → s < 1024 → g s ≡ true → ((t : ℕ) → t ≢ s → g t ≡ f t) → Grows f g (not (f s))
+grows_one f g s l here others = record {
+  keeps = λ t e. ⊎_elim (λ (i : t ≡ s). ap g i ∙ here) (λ ne. others t ne ∙ e) (cases_eq t s);
+  rests = λ e. fun_ext (λ t. ⊎_elim (λ (i : t ≡ s). ap g i ∙ here ∙ sym (not_new (f s) e) ∙ ap f (sym i)) (others t) (cases_eq t s));
+  more = λ e. one_less (marked f 1024) (marked g 1024) (marked_more f g s (new (f s) e) here others 1024 l);
 }
+  where
+    one_less : (x y : ℕ) → y ≡ x + 1 → x < y
+    one_less x y e = omega arith
 
--- nothing, and then something
-pub grows_then : (a b c : List Bool) (x : Bool) → Grows a b x → Grows b c true → Grows a c true
-grows_then a b c x g h = record {
-  long = h.long ∙ g.long;
-  keeps = λ s e. h.keeps s (g.keeps s e);
-  rests = λ e. absurd (true≢false e);
-  more = λ _. let l = marked_keeps (mark a) (mark b) g.keeps (length a) in
-      let k : marked (mark b) (length a) < marked (mark c) (length a) = subst (λ n. marked (mark b) n < marked (mark c) n) g.long (h.more refl) in omega arith;
+    not_new : (b : Bool) → not b ≡ false → b ≡ true
+    not_new true e = refl
+    not_new false e = sym e
+
+    new : (b : Bool) → not b ≡ true → b ≡ false
+    new true e = sym e
+    new false e = refl
+
+less_le : (x y z : ℕ) → x < y → y ≤ z → x < z
+less_le x y z l k = omega arith
+
+le_less : (x y z : ℕ) → x ≤ y → y < z → x < z
+le_less x y z l k = omega arith
+
+-- one growth after another
+pub grows_then : (f g h : ℕ → Bool) (x y : Bool) → Grows f g x → Grows g h y → Grows f h (x || y)
+grows_then f g h x y a b = record {
+  keeps = λ s e. b.keeps s (a.keeps s e);
+  rests = λ e. let no = or_parts x y e in b.rests no.1 ∙ a.rests no.0;
+  more = λ e. some x y e a b;
 }
-
-pub grows_still : (a b c : List Bool) (x : Bool) → Grows a b x → Grows b c false → Grows a c x
-grows_still a b c x g h = subst (λ z. Grows a z x) (sym (h.rests refl)) g
+  where
+    some : (x y : Bool) → (x || y) ≡ true → Grows f g x → Grows g h y → marked f 1024 < marked h 1024
+    some true y e a b = less_le (marked f 1024) (marked g 1024) (marked h 1024) (a.more refl) (marked_keeps g h b.keeps 1024)
+    some false y e a b = le_less (marked f 1024) (marked g 1024) (marked h 1024) (marked_keeps f g a.keeps 1024) (b.more e)
 
 -- a member at each index
 pub member_at : {X : Type 0} (xs : List X) (i : ℕ) (d : X) → i < length xs → Member (get_or xs i d) xs
@@ -73,58 +87,51 @@ marked_member f [] s e h = absurd h
 marked_member f (c ∷ cs) s e h = let parts = and_parts (f c) (each_marked f cs) e in ⊎_elim (λ (i : s ≡ c). ap f i ∙ parts.0) (λ k. marked_member f cs s parts.1 k) h
 
 -- the first i children are marked, and nothing else was
-pub record Keeping (old new : List Bool) (added : Bool) (cs : List ℕ) (i : ℕ) : Type 0 where
+pub record Keeping (old new : ℕ → Bool) (added : Bool) (cs : List ℕ) (i : ℕ) : Type 0 where
   pub grows : Grows old new added
-  pub front : each_marked (mark new) (take i cs) ≡ true
-  pub from : (s : ℕ) → mark new s ≡ true → (mark old s ≡ true) ⊎ Member s cs
+  pub front : each_marked new (take i cs) ≡ true
+  pub from : (s : ℕ) → new s ≡ true → (old s ≡ true) ⊎ Member s cs
 
-pub keeping_none : (a : List Bool) (cs : List ℕ) → Keeping a a false cs 0
-keeping_none a cs = record { grows = grows_none a; front = refl; from = λ s e. inl e }
+pub keeping_none : (f : ℕ → Bool) (cs : List ℕ) → Keeping f f false cs 0
+keeping_none f cs = record { grows = grows_none f; front = refl; from = λ s e. inl e }
 
-module _ (old new new' : List Bool) (added added' : Bool) (cs : List ℕ) (i : ℕ) (l : i < length cs) (h : Keeping old new added cs i) where
-  front_more : (f : ℕ → Bool) → each_marked f (take i cs) ≡ true → f (get_or cs i 0) ≡ true → each_marked f (take (i + 1) cs) ≡ true
-  front_more f e k = ap (each_marked f) (take_more cs i 0 l) ∙ all_marked_append f (take i cs) (get_or cs i 0) e k
+pub keeping_more : (old new new' : ℕ → Bool) (added r : Bool) (cs : List ℕ) (i : ℕ) → i < length cs → Keeping old new added cs i
+    → Grows new new' r → new' (get_or cs i 0) ≡ true → ((s : ℕ) → s ≢ get_or cs i 0 → new' s ≡ new s) → Keeping old new' (added || r) cs (i + 1)
+keeping_more old new new' added r cs i l h g here others =
+    let c = get_or cs i 0 in
+    record {
+      grows = grows_then old new new' added r h.grows g;
+      front = ap (each_marked new') (take_more cs i 0 l) ∙ all_marked_append new' (take i cs) c (all_marked_keeps new new' g.keeps (take i cs) h.front) here;
+      from = λ s e. ⊎_elim (λ (j : s ≡ c). inr (subst (λ z. Member z cs) (sym j) (member_at cs i 0 l))) (λ ne. h.from s (sym (others s ne) ∙ e)) (cases_eq s c);
+    }
 
-  pub keeping_same : new' ≡ new → added' ≡ added → mark new (get_or cs i 0) ≡ true → Keeping old new' added' cs (i + 1)
-  keeping_same en ea k =
-      subst (λ z. Keeping old z added' cs (i + 1)) (sym en) (subst (λ z. Keeping old new z cs (i + 1)) (sym ea)
-      (record { grows = h.grows; front = front_more (mark new) h.front k; from = h.from }))
-
-  pub keeping_more : get_or cs i 0 < length new → new' ≡ set new (get_or cs i 0) true → added' ≡ true → mark new (get_or cs i 0) ≡ false → Keeping old new' added' cs (i + 1)
-  keeping_more lc en ea un =
-      let c = get_or cs i 0 in
-      subst (λ z. Keeping old z added' cs (i + 1)) (sym en) (subst (λ z. Keeping old (set new c true) z cs (i + 1)) (sym ea)
-      (record {
-        grows = grows_then old new (set new c true) added h.grows (grows_one new c lc un);
-        front = front_more (mark (set new c true)) (all_marked_keeps (mark new) (mark (set new c true)) (mark_keeps new c) (take i cs) h.front) (mark_here new c lc);
-        from = λ s e. ⊎_elim (λ (j : s ≡ c). inr (subst (λ z. Member z cs) (sym j) (member_at cs i 0 l))) (λ ne. h.from s (sym (mark_other new c s ne) ∙ e)) (cases_eq s c);
-      }))
+pub keeping_all : (old new : ℕ → Bool) (added : Bool) (cs : List ℕ) (i : ℕ) → length cs ≤ i → Keeping old new added cs i → each_marked new cs ≡ true
+keeping_all old new added cs i l h = ap (each_marked new) (sym (take_all i cs l)) ∙ h.front
 
 -- the ready rows among the first have their children marked, and nothing else was marked
-pub record Leading (f : ℕ → Bool) (old new : List Bool) (added : Bool) (ps all : List Production) : Type 0 where
+pub record Leading (f old new : ℕ → Bool) (added : Bool) (ps all : List Production) : Type 0 where
   pub grows : Grows old new added
-  pub done : (p : Production) → Member p ps → each_marked f p.children ≡ true → each_marked (mark new) p.children ≡ true
-  pub from : (s : ℕ) → mark new s ≡ true → (mark old s ≡ true) ⊎ Led f all s
+  pub done : (p : Production) → Member p ps → each_marked f p.children ≡ true → each_marked new p.children ≡ true
+  pub from : (s : ℕ) → new s ≡ true → (old s ≡ true) ⊎ Led f all s
 
-pub leading_none : (f : ℕ → Bool) (a : List Bool) (all : List Production) → Leading f a a false [] all
-leading_none f a all = record { grows = grows_none a; done = λ p h. absurd h; from = λ s e. inl e }
+pub leading_none : (f old : ℕ → Bool) (all : List Production) → Leading f old old false [] all
+leading_none f old all = record { grows = grows_none old; done = λ p h. absurd h; from = λ s e. inl e }
 
-module _ (f : ℕ → Bool) (old new new' : List Bool) (added added' : Bool) (ps all : List Production) (p : Production) (h : Leading f old new added ps all) where
+module _ (f old new : ℕ → Bool) (added : Bool) (ps all : List Production) (p : Production) (h : Leading f old new added ps all) where
   -- an unready row
-  pub leading_skip : new' ≡ new → added' ≡ added → each_marked f p.children ≡ false → Leading f old new' added' (ps ++ p ∷ []) all
-  leading_skip en ea un =
-      subst (λ z. Leading f old z added' (ps ++ p ∷ []) all) (sym en) (subst (λ z. Leading f old new z (ps ++ p ∷ []) all) (sym ea)
-      (record {
-        grows = h.grows;
-        done = λ q m e. ⊎_elim (λ k. h.done q k e) (λ k. ⊎_elim (λ (i : q ≡ p). absurd (both_ways (each_marked f p.children) un (subst (λ z. each_marked f z.children ≡ true) i e))) absurd k) (member_cases q ps (p ∷ []) m);
-        from = h.from;
-      }))
+  pub leading_skip : each_marked f p.children ≡ false → Leading f old new added (ps ++ p ∷ []) all
+  leading_skip un = record {
+    grows = h.grows;
+    done = λ q m e. ⊎_elim (λ k. h.done q k e) (λ k. ⊎_elim (λ (i : q ≡ p). absurd (both_ways (each_marked f p.children) un (subst (λ z. each_marked f z.children ≡ true) i e))) absurd k) (member_cases q ps (p ∷ []) m);
+    from = h.from;
+  }
 
   -- a ready row
-  pub leading_row : (r : Bool) → Member p all → each_marked f p.children ≡ true → Grows new new' r → each_marked (mark new') p.children ≡ true → ((s : ℕ) → mark new' s ≡ true → (mark new s ≡ true) ⊎ Member s p.children) → Grows old new' added' → Leading f old new' added' (ps ++ p ∷ []) all
-  leading_row r mp ready g now from g' = record {
-    grows = g';
-    done = λ q m e. ⊎_elim (λ k. all_marked_keeps (mark new) (mark new') g.keeps q.children (h.done q k e)) (λ k. ⊎_elim (λ (i : q ≡ p). subst (λ z. each_marked (mark new') z.children ≡ true) (sym i) now) absurd k) (member_cases q ps (p ∷ []) m);
+  pub leading_row : (new' : ℕ → Bool) (r : Bool) → Member p all → each_marked f p.children ≡ true → Grows new new' r → each_marked new' p.children ≡ true
+      → ((s : ℕ) → new' s ≡ true → (new s ≡ true) ⊎ Member s p.children) → Leading f old new' (added || r) (ps ++ p ∷ []) all
+  leading_row new' r mp ready g now from = record {
+    grows = grows_then old new new' added r h.grows g;
+    done = λ q m e. ⊎_elim (λ k. all_marked_keeps new new' g.keeps q.children (h.done q k e)) (λ k. ⊎_elim (λ (i : q ≡ p). subst (λ z. each_marked new' z.children ≡ true) (sym i) now) absurd k) (member_cases q ps (p ∷ []) m);
     from = λ s e. ⊎_elim (h.from s) (λ k. inr (p, mp, ready, k)) (from s e);
   }
 
@@ -136,65 +143,71 @@ module _ (m : Meaning) (sm : Sound m) where
   none_ready f s h k p e = ⊎_elim (λ t. absurd (h (p, member_rows m s m.places k p (place_below m sm s k p e) e, t))) (λ x. x) (cases_Bool (each_marked f p.children))
 
   -- between the states of a round
-  abbrev pub Round : List Bool → List Bool → Bool → ℕ → Type 0
-  Round old new added s = Grows old new added × AllProductive m new × (added ≡ false → Stuck m (mark new) s)
+  pub record Round (old new : ℕ → Bool) (added : Bool) (s : ℕ) : Type 0 where
+    pub grows : Grows old new added
+    pub right : AllProductive m new
+    pub stuck : added ≡ false → Stuck m new s
 
-  module _ (old new new' : List Bool) (added added' : Bool) (s : ℕ) (h : Round old new added s) where
-    pub round_same : new' ≡ new → added' ≡ added → (mark new s ≡ true) ⊎ (SomeReady (mark new) (rows_of m s) → ⊥) → Round old new' added' (s + 1)
-    round_same en ea here =
-        subst (λ z. Round old z added' (s + 1)) (sym en) (subst (λ z. Round old new z (s + 1)) (sym ea)
-        (h.0, h.1, λ e. below_more (λ t. (mark new t ≡ true) ⊎ Unready m (mark new) t) s (h.2 e) (⊎_elim inl (λ u. inr (none_ready (mark new) s u)) here)))
+  pub round_none : (old : ℕ → Bool) → AllProductive m old → Round old old false 0
+  round_none old right = record { grows = grows_none old; right = right; stuck = λ _ t l. absurd (omega arith) }
 
-    pub round_more : s < length new → new' ≡ set new s true → added' ≡ true → mark new s ≡ false → SomeReady (mark new) (rows_of m s) → Round old new' added' (s + 1)
-    round_more l en ea un ready =
-        let r = some_ready (mark new) s ready in
-        subst (λ z. Round old z added' (s + 1)) (sym en) (subst (λ z. Round old (set new s true) z (s + 1)) (sym ea) (
-          grows_then old new (set new s true) added h.0 (grows_one new s l un),
-          λ t e. ⊎_elim (λ (i : t ≡ s). subst (Productive m) (sym i) (usable_productive m s r.0 r.1.0 (place_below m sm s r.0 r.1.0 r.1.1) r.1.1 (all_from_marked (Productive m) (mark new) h.1 r.1.0.children r.1.2)))
-              (λ ne. h.1 t (sym (mark_other new s t ne) ∙ e)) (cases_eq t s),
-          λ e. absurd (true≢false e),
-        ))
+  module _ (old new : ℕ → Bool) (added : Bool) (s : ℕ) (h : Round old new added s) where
+    pub round_same : (new s ≡ true) ⊎ (SomeReady new (rows_of m s) → ⊥) → Round old new added (s + 1)
+    round_same here = record {
+      grows = h.grows;
+      right = h.right;
+      stuck = λ e. below_more (λ t. (new t ≡ true) ⊎ Unready m new t) s (h.stuck e) (⊎_elim inl (λ u. inr (none_ready new s u)) here);
+    }
 
-  pub productive_decided : (marks : List Bool) → AllProductive m marks → Stuck m (mark marks) m.states → (s : ℕ) → Decides (mark marks s) (Productive m s)
-  productive_decided marks right stuck s = (right s, stuck_productive m sm (mark marks) stuck s)
+    pub round_more : (new' : ℕ → Bool) (r : Bool) → SomeReady new (rows_of m s) → Grows new new' r → new' s ≡ true → ((t : ℕ) → t ≢ s → new' t ≡ new t) → Round old new' (added || r) (s + 1)
+    round_more new' r ready g here others =
+        let k = some_ready new s ready in
+        record {
+          grows = grows_then old new new' added r h.grows g;
+          right = λ t e. ⊎_elim (λ (i : t ≡ s). subst (Productive m) (sym i) (usable_productive m s k.0 k.1.0 (place_below m sm s k.0 k.1.0 k.1.1) k.1.1 (all_from_marked (Productive m) new h.right k.1.0.children k.1.2)))
+              (λ ne. h.right t (sym (others t ne) ∙ e)) (cases_eq t s);
+          stuck = λ e. let still = or_parts added r e in subst (λ z. Stuck m z (s + 1)) (sym (g.rests still.1))
+              (below_more (λ t. (new t ≡ true) ⊎ Unready m new t) s (h.stuck still.0) (inl (ap (λ z. z s) (sym (g.rests still.1)) ∙ here)));
+        }
+
+  pub productive_decided : (marks : ℕ → Bool) → AllProductive m marks → Stuck m marks m.states → (s : ℕ) → Decides (marks s) (Productive m s)
+  productive_decided marks right stuck s = (right s, stuck_productive m sm marks stuck s)
 
   -- between the states of a round over the kept ones
-  abbrev pub KeepRound : (ℕ → Bool) → List Bool → List Bool → Bool → ℕ → Type 0
-  KeepRound f old new added s = Grows old new added × AllKept m new × (added ≡ false → Spread m f new s)
+  pub record KeepRound (f old new : ℕ → Bool) (added : Bool) (s : ℕ) : Type 0 where
+    pub grows : Grows old new added
+    pub right : AllKept m new
+    pub spread : added ≡ false → Spread m f new s
 
-  module _ (f : ℕ → Bool) (marks : (s : ℕ) → Decides (f s) (Productive m s)) (old new new' : List Bool) (added added' : Bool) (s : ℕ) (h : KeepRound f old new added s) where
-    pub led_kept : (t : ℕ) → Kept m s → Led f (rows_of m s) t → Kept m t
-    led_kept t k l = let r = rows_member m s m.places l.0 l.1 in next s r.0 l.0 t k r.2 (all_from_marked (Productive m) f (λ c e. (marks c).0 e) l.0.children l.2) l.3
+  pub keep_none : (f old : ℕ → Bool) → AllKept m old → KeepRound f old old false 0
+  keep_none f old right = record { grows = grows_none old; right = right; spread = λ _ t l. absurd (omega arith) }
 
-    pub keep_skip : new' ≡ new → added' ≡ added → mark new s ≡ false → KeepRound f old new' added' (s + 1)
-    keep_skip en ea un =
-        subst (λ z. KeepRound f old z added' (s + 1)) (sym en) (subst (λ z. KeepRound f old new z (s + 1)) (sym ea)
-        (h.0, h.1, λ e. below_more (λ t. mark new t ≡ true → (k : ℕ) (p : Production) → m.row t k ≡ Some p → each_marked f p.children ≡ true → each_marked (mark new) p.children ≡ true) s (h.2 e) (λ k. absurd (both_ways (mark new s) un k))))
+  module _ (f old new : ℕ → Bool) (added : Bool) (s : ℕ) (h : KeepRound f old new added s) where
+    Here : (ℕ → Bool) → ℕ → Type 0
+    Here g t = g t ≡ true → (k : ℕ) (p : Production) → m.row t k ≡ Some p → each_marked f p.children ≡ true → each_marked g p.children ≡ true
 
-    pub keep_row : mark new s ≡ true → (r : Bool) → Grows new new' r → ((p : Production) → Member p (rows_of m s) → each_marked f p.children ≡ true → each_marked (mark new') p.children ≡ true)
-        → ((t : ℕ) → mark new' t ≡ true → (mark new t ≡ true) ⊎ Led f (rows_of m s) t) → ((r ≡ true) × (added' ≡ true)) ⊎ ((r ≡ false) × (added' ≡ added)) → KeepRound f old new' added' (s + 1)
-    keep_row here r g done from way = (grown way, λ t e. ⊎_elim (h.1 t) (led_kept t (h.1 s here)) (from t e), spread way)
-      where
-        grown : ((r ≡ true) × (added' ≡ true)) ⊎ ((r ≡ false) × (added' ≡ added)) → Grows old new' added'
-        grown (inl w) = subst (Grows old new') (sym w.1) (grows_then old new new' added h.0 (subst (Grows new new') w.0 g))
-        grown (inr w) = subst (Grows old new') (sym w.1) (grows_still old new new' added h.0 (subst (Grows new new') w.0 g))
+    pub keep_skip : new s ≡ false → KeepRound f old new added (s + 1)
+    unfolding Here
+    keep_skip un = record {
+      grows = h.grows;
+      right = h.right;
+      spread = λ e. below_more (Here new) s (h.spread e) (λ k. absurd (both_ways (new s) un k));
+    }
 
-        spread : ((r ≡ true) × (added' ≡ true)) ⊎ ((r ≡ false) × (added' ≡ added)) → added' ≡ false → Spread m f new' (s + 1)
-        spread (inl w) e = absurd (true≢false (sym w.1 ∙ e))
-        spread (inr w) e =
-            let same : new' ≡ new = g.rests w.0 in
-            subst (λ z. Spread m f z (s + 1)) (sym same)
-            (below_more (λ t. mark new t ≡ true → (k : ℕ) (p : Production) → m.row t k ≡ Some p → each_marked f p.children ≡ true → each_marked (mark new) p.children ≡ true) s (h.2 (sym w.1 ∙ e))
-            (λ _ k p row all. subst (λ z. each_marked (mark z) p.children ≡ true) same (done p (member_rows m s m.places k p (place_below m sm s k p row) row) all)))
+    pub keep_row : ((t : ℕ) → Decides (f t) (Productive m t)) → new s ≡ true → (new' : ℕ → Bool) (r : Bool) → Grows new new' r → ((p : Production) → Member p (rows_of m s) → each_marked f p.children ≡ true → each_marked new' p.children ≡ true)
+        → ((t : ℕ) → new' t ≡ true → (new t ≡ true) ⊎ Led f (rows_of m s) t) → KeepRound f old new' (added || r) (s + 1)
+    unfolding Here
+    keep_row marks here new' r g done from = record {
+      grows = grows_then old new new' added r h.grows g;
+      right = λ t e. ⊎_elim (h.right t) (λ l. let k = rows_member m s m.places l.0 l.1 in next s k.0 l.0 t (h.right s here) k.2 (all_from_marked (Productive m) f (λ c e. (marks c).0 e) l.0.children l.2) l.3) (from t e);
+      spread = λ e. let still = or_parts added r e in subst (λ z. Spread m f z (s + 1)) (sym (g.rests still.1))
+          (below_more (Here new) s (h.spread still.0) (λ _ k p row all. subst (λ (z : ℕ → Bool). each_marked z p.children ≡ true) (g.rests still.1) (done p (member_rows m s m.places k p (place_below m sm s k p row) row) all)));
+    }
 
-  pub kept_marked : (f : ℕ → Bool) → ((s : ℕ) → Decides (f s) (Productive m s)) → (kept : List Bool) → Spread m f kept m.states → (f m.root ≡ true → mark kept m.root ≡ true) → {s : ℕ} → Kept m s → mark kept s ≡ true
+  pub kept_marked : (f : ℕ → Bool) → ((s : ℕ) → Decides (f s) (Productive m s)) → (kept : ℕ → Bool) → Spread m f kept m.states → (f m.root ≡ true → kept m.root ≡ true) → {s : ℕ} → Kept m s → kept s ≡ true
   kept_marked f marks kept spread start (root h) = start ((marks m.root).1 h)
   kept_marked f marks kept spread start (next s k p c h e ps mc) =
-      marked_member (mark kept) p.children c (spread s (state_below m sm s k p e) (kept_marked f marks kept spread start h) k p e (usable_marked p.children ps)) mc
-    where
-      usable_marked : (cs : List ℕ) → AllByRecursion (Productive m) cs → each_marked f cs ≡ true
-      usable_marked [] a = refl
-      usable_marked (x ∷ xs) a = and_from (f x) (each_marked f xs) ((marks x).1 a.0) (usable_marked xs a.1)
+      marked_member kept p.children c (spread s (state_below m sm s k p e) (kept_marked f marks kept spread start h) k p e (marked_from_all (Productive m) f (λ x g. (marks x).1 g) p.children ps)) mc
 
   pub rows_within : (s l : ℕ) → m.states ≤ l → AllByRecursion (λ p. all_below l p.children ≡ true) (rows_of m s)
   rows_within s l le = all_members (λ p. all_below l p.children ≡ true) (rows_of m s) (λ p h. let r = rows_member m s m.places p h in row_within m sm s r.0 p l le (sym r.2))
@@ -203,49 +216,27 @@ module _ (m : Meaning) (sm : Sound m) where
       all_members P [] h = tt
       all_members P (x ∷ xs) h = (h x (inl refl), all_members P xs (λ p k. h p (inr k)))
 
-module _ (f : ℕ → Bool) (rs : List Row) (i : ℕ) (d : Row) (l : i < length rs) where
+module _ (f : ℕ → Bool) where
+  pub ready_found : (rs : List Row) → list_any (λ r. each_marked f (production r).children) rs ≡ true → SomeReady f (map production rs)
+  ready_found [] e = absurd (true≢false (sym e))
+  ready_found (r ∷ rs) e = ⊎_elim (λ t. (production r, inl refl, t)) (λ t. let k = ready_found rs t in (k.0, inr k.1, k.2)) (or_cases (each_marked f (production r).children) (list_any (λ r. each_marked f (production r).children) rs) e)
+
+  pub found_ready : (rs : List Row) → SomeReady f (map production rs) → list_any (λ r. each_marked f (production r).children) rs ≡ true
+  found_ready [] k = absurd k.1
+  found_ready (r ∷ rs) k =
+      ⊎_elim (λ (i : k.0 ≡ production r). or_left (each_marked f (production r).children) (list_any (λ r. each_marked f (production r).children) rs) (subst (λ (p : Production). each_marked f p.children ≡ true) i k.2))
+      (λ t. or_right (each_marked f (production r).children) (list_any (λ r. each_marked f (production r).children) rs) (found_ready rs (k.0, t, k.2))) k.1
+
+module _ (rs : List Row) (i : ℕ) (d : Row) (l : i < length rs) where
   pub row_member : Member (production (get_or rs i d)) (map production rs)
   row_member = member_map production (get_or rs i d) rs (member_at rs i d l)
 
   pub row_closed : (P : Production → Type 0) → AllByRecursion P (map production rs) → P (production (get_or rs i d))
   row_closed P all = subst P (get_or-map production rs i d (production d) l) (All-get_or P (map production rs) i (production d) (omega (arith, length-map rs production)) all)
 
-  pub ready_at : each_marked f (production (get_or rs i d)).children ≡ true → SomeReady f (map production rs)
-  ready_at e = (production (get_or rs i d), row_member, e)
-
-  pub unready_more : ((p : Production) → Member p (map production (take i rs)) → each_marked f p.children ≡ false) → each_marked f (production (get_or rs i d)).children ≡ false
-      → (p : Production) → Member p (map production (take (i + 1) rs)) → each_marked f p.children ≡ false
-  unready_more h e p k =
-      ⊎_elim (h p) (λ x. ⊎_elim (λ (j : p ≡ production (get_or rs i d)). subst (λ z. each_marked f z.children ≡ false) (sym j) e) absurd x)
-      (member_cases p (map production (take i rs)) (production (get_or rs i d) ∷ []) (subst (Member p) (map_more production rs i d l) k))
-
-pub unready_end : (f : ℕ → Bool) (rs : List Row) (i : ℕ) → length rs ≤ i → ((p : Production) → Member p (map production (take i rs)) → each_marked f p.children ≡ false) → SomeReady f (map production rs) → ⊥
-unready_end f rs i l h r = both_ways (each_marked f r.0.children) (h r.0 (subst (λ z. Member r.0 (map production z)) (sym (take_all i rs l)) r.1)) r.2
-
-pub none_marked : (s : ℕ) → mark (replicate 1024 false) s ≡ false
-none_marked s = ⊎_elim (λ lt. get_or-replicate 1024 s false false lt) (λ le. get_or_past (replicate 1024 false) s false (omega (arith, length-replicate 1024 false))) (cases_lt s 1024)
-
--- only one state may be marked
-pub one_marked : (r : ℕ) (b : Bool) (s : ℕ) → mark (set (replicate 1024 false) r b) s ≡ true → (s ≡ r) × (r < 1024 → b ≡ true)
-one_marked r b s e =
-    ⊎_elim (λ (i : s ≡ r). (i, λ l. sym (get_or-set_same (replicate 1024 false) r b false (omega (arith, length-replicate 1024 false))) ∙ ap (mark (set (replicate 1024 false) r b)) (sym i) ∙ e))
-    (λ ne. absurd (both_ways (mark (replicate 1024 false) s) (none_marked s) (sym (get_or-set_other (replicate 1024 false) r s b false ne) ∙ e))) (cases_eq s r)
-
-module _ (m : Meaning) (sm : Sound m) (f : ℕ → Bool) where
-  -- the root is marked first, if it is productive
-  pub kept_start : ((s : ℕ) → Decides (f s) (Productive m s)) → (r : ℕ) → r ≡ m.root → AllKept m (set (replicate 1024 false) r (f r))
-  kept_start marks r e s h =
-      let one = one_marked r (f r) s h in
-      subst (Kept m) (sym (one.0 ∙ e)) (root ((marks m.root).0 (ap f (sym e) ∙ one.1 (omega (arith, sm.rooted, sm.few_states)))))
-
-  pub kept_root : (r : ℕ) → r ≡ m.root → f m.root ≡ true → mark (set (replicate 1024 false) r (f r)) m.root ≡ true
-  kept_root r e h =
-      ap (mark (set (replicate 1024 false) r (f r))) (sym e)
-      ∙ get_or-set_same (replicate 1024 false) r (f r) false (omega (arith, length-replicate 1024 false, sm.rooted, sm.few_states)) ∙ ap f e ∙ h
-
 left_less : (n x y : ℕ) → x < y → y ≤ n → n - y < n - x
 left_less n x y l h = omega arith
 
 -- more marks, fewer left
-pub grows_less : (a b : List Bool) (x : Bool) (n : ℕ) → length a ≡ n → Grows a b x → x ≡ true → n - marked (mark b) n < n - marked (mark a) n
-grows_less a b x n e g h = left_less n (marked (mark a) n) (marked (mark b) n) (subst (λ k. marked (mark a) k < marked (mark b) k) e (g.more h)) (marked_le (mark b) n)
+pub grows_less : (f g : ℕ → Bool) (x : Bool) → Grows f g x → x ≡ true → 1024 - marked g 1024 < 1024 - marked f 1024
+grows_less f g x h e = left_less 1024 (marked f 1024) (marked g 1024) (h.more e) (marked_le g 1024)

@@ -4,3 +4,5 @@ pub mod Readiness
 pub mod Collecting
 pub mod Growing
 pub mod Trims
+pub mod RowChains
+pub mod Filling

@@ -1,25 +1,18 @@
 -- Marks: all of a list, one more, and how many there are.
-use Rattle.std.proofs.Common.{◌≡◌, ℕ, zero, suc, ◌+◌, ◌<◌, ◌≤◌, Bool, true, false, cond, ◌&&◌, ltb, ◌≢◌, List, [], ◌∷◌, length, get_or, drop, set, sym, refl, ap, ◌∙◌, ap₂, ⊎_elim, arith}
+use Rattle.std.proofs.Common.{◌≡◌, ℕ, zero, suc, ◌+◌, ◌<◌, ◌≤◌, Bool, true, false, cond, ltb, ◌≢◌, List, [], ◌∷◌, get_or, length, replicate, refl, ap, ◌∙◌, ap₂, ⊎_elim, sym, arith}
 use Rattle.std.specs.List.{AllByRecursion}
-use Rattle.std.proofs.lemmas.List.{length-take, get_or-take, drop_more, drop_all, get_or-set_same, get_or-set_other, get_or_past}
-use Rattle.std.proofs.lemmas.Bool.{and_parts, and_from, ltb-true, cases_eq, cases_lt, true≢false}
-use Rattle.automata.specs.declared.row.Row.{Row}
-use Rattle.automata.specs.Automaton.{all_below, production}
+use Rattle.std.proofs.lemmas.List.{get_or-replicate, get_or_past, length-replicate}
+use Rattle.std.proofs.lemmas.Bool.{and_parts, and_from, ltb-true, cases_eq, cases_lt}
+use Rattle.automata.specs.Automaton.{all_below}
 use Rattle.layers.specs.Marks.{mark, each_marked, marked}
+
+pub none_marked : (s : ℕ) → mark (replicate 1024 false) s ≡ false
+none_marked s = ⊎_elim (λ lt. get_or-replicate 1024 s false false lt) (λ le. get_or_past (replicate 1024 false) s false (omega (arith, length-replicate 1024 false))) (cases_lt s 1024)
 
 pub all_below_at : (n : ℕ) (cs : List ℕ) (i : ℕ) → all_below n cs ≡ true → i < length cs → get_or cs i 0 < n
 all_below_at n [] i e l = absurd (omega arith)
 all_below_at n (c ∷ cs) zero e l = ltb-true c n (and_parts (ltb c n) (all_below n cs) e).0
 all_below_at n (c ∷ cs) (suc i) e l = all_below_at n cs i (and_parts (ltb c n) (all_below n cs) e).1 (omega arith)
-
-pub all_marked_true : (f : ℕ → Bool) (cs : List ℕ) (i : ℕ) → i < length cs → f (get_or cs i 0) ≡ true → each_marked f (drop i cs) ≡ each_marked f (drop (i + 1) cs)
-all_marked_true f cs i l e = ap (each_marked f) (drop_more cs i 0 l) ∙ ap (λ b. b && each_marked f (drop (i + 1) cs)) e
-
-pub all_marked_false : (f : ℕ → Bool) (cs : List ℕ) (i : ℕ) → i < length cs → f (get_or cs i 0) ≡ false → each_marked f (drop i cs) ≡ false
-all_marked_false f cs i l e = ap (each_marked f) (drop_more cs i 0 l) ∙ ap (λ b. b && each_marked f (drop (i + 1) cs)) e
-
-pub all_marked_end : (f : ℕ → Bool) (cs : List ℕ) (i : ℕ) → length cs ≤ i → each_marked f (drop i cs) ≡ true
-all_marked_end f cs i l = ap (each_marked f) (drop_all i cs l)
 
 pub all_from_marked : (P : ℕ → Type 0) (f : ℕ → Bool) → ((s : ℕ) → f s ≡ true → P s) → (cs : List ℕ) → each_marked f cs ≡ true → AllByRecursion P cs
 all_from_marked P f h [] e = tt
@@ -29,22 +22,13 @@ pub marked_from_all : (P : ℕ → Type 0) (f : ℕ → Bool) → ((s : ℕ) →
 marked_from_all P f h [] a = refl
 marked_from_all P f h (c ∷ cs) a = and_from (f c) (each_marked f cs) (h c a.0) (marked_from_all P f h cs a.1)
 
-pub mark_here : (marks : List Bool) (s : ℕ) → s < length marks → mark (set marks s true) s ≡ true
-mark_here marks s l = get_or-set_same marks s true false l
-
-pub mark_other : (marks : List Bool) (s t : ℕ) → t ≢ s → mark (set marks s true) t ≡ mark marks t
-mark_other marks s t ne = get_or-set_other marks s t true false ne
-
--- what was marked stays so
-pub mark_keeps : (marks : List Bool) (s t : ℕ) → mark marks t ≡ true → mark (set marks s true) t ≡ true
-mark_keeps marks s t e =
-    ⊎_elim
-    (λ (i : t ≡ s). ⊎_elim (λ l. ap (mark (set marks s true)) i ∙ mark_here marks s l) (λ l. absurd (true≢false (sym (ap (mark marks) (sym i) ∙ e) ∙ get_or_past marks s false l))) (cases_lt s (length marks)))
-    (λ ne. mark_other marks s t ne ∙ e) (cases_eq t s)
-
 bit_le : (b : Bool) → cond b 1 0 ≤ 1
 bit_le true = omega arith
 bit_le false = omega arith
+
+pub marked_none : (f : ℕ → Bool) → ((s : ℕ) → f s ≡ false) → (n : ℕ) → marked f n ≡ 0
+marked_none f e zero = refl
+marked_none f e (suc n) = ap₂ (λ x b. x + cond b 1 0) (marked_none f e n) (e n)
 
 pub marked_le : (f : ℕ → Bool) (n : ℕ) → marked f n ≤ n
 marked_le f zero = omega arith
@@ -61,29 +45,15 @@ marked_same f g zero h = refl
 marked_same f g (suc n) h = ap₂ (λ x b. x + cond b 1 0) (marked_same f g n (λ t l. h t (omega arith))) (h n (omega arith))
 
 -- one more mark is one more
-pub marked_more : (marks : List Bool) (n s : ℕ) → n ≤ length marks → s < n → mark marks s ≡ false → marked (mark (set marks s true)) n ≡ marked (mark marks) n + 1
-marked_more marks zero s ln l e = absurd (omega arith)
-marked_more marks (suc n) s ln l e =
+pub marked_more : (f g : ℕ → Bool) (s : ℕ) → f s ≡ false → g s ≡ true → ((t : ℕ) → t ≢ s → g t ≡ f t) → (n : ℕ) → s < n → marked g n ≡ marked f n + 1
+marked_more f g s un here others zero l = absurd (omega arith)
+marked_more f g s un here others (suc n) l =
     ⊎_elim
     (λ (i : s ≡ n).
-    let new : ◌≡◌ {A = ℕ} (cond (mark (set marks s true) n) 1 0) 1 = ap (λ b. cond b 1 0) (ap (mark (set marks s true)) (sym i) ∙ mark_here marks s (omega arith)) in
-    let old : ◌≡◌ {A = ℕ} (cond (mark marks n) 1 0) 0 = ap (λ b. cond b 1 0) (ap (mark marks) (sym i) ∙ e) in
-    omega (arith, new, old, marked_same (mark (set marks s true)) (mark marks) n (λ t lt. mark_other marks s t (omega arith))))
+    let new : ◌≡◌ {A = ℕ} (cond (g n) 1 0) 1 = ap (λ b. cond b 1 0) (ap g (sym i) ∙ here) in
+    let old : ◌≡◌ {A = ℕ} (cond (f n) 1 0) 0 = ap (λ b. cond b 1 0) (ap f (sym i) ∙ un) in
+    omega (arith, new, old, marked_same g f n (λ t lt. others t (omega arith))))
     (λ ne.
-    let same : ◌≡◌ {A = ℕ} (cond (mark (set marks s true) n) 1 0) (cond (mark marks n) 1 0) = ap (λ b. cond b 1 0) (mark_other marks s n (λ i. ne (sym i))) in
-    omega (arith, same, marked_more marks n s (omega arith) (omega arith) e))
+    let same : ◌≡◌ {A = ℕ} (cond (g n) 1 0) (cond (f n) 1 0) = ap (λ b. cond b 1 0) (others n (λ i. ne (sym i))) in
+    omega (arith, same, marked_more f g s un here others n (omega arith)))
     (cases_eq s n)
-
--- the same of a row's children
-module _ (marks : List Bool) (r : Row) (w i : ℕ) (ew : w ≡ length (production r).children) (l : i < w) where
-  pub child_at : get_or r.children i 0 ≡ get_or (production r).children i 0
-  child_at = sym (get_or-take r.arity r.children i 0 (omega (arith, length-take r.arity r.children)))
-
-  pub child_within : all_below (length marks) (production r).children ≡ true → get_or r.children i 0 < length marks
-  child_within b = omega (arith, child_at, all_below_at (length marks) (production r).children i b (omega arith))
-
-  pub row_marked_false : mark marks (get_or r.children i 0) ≡ false → each_marked (mark marks) (drop i (production r).children) ≡ false
-  row_marked_false f = all_marked_false (mark marks) (production r).children i (omega arith) (sym (ap (mark marks) child_at) ∙ f)
-
-  pub row_marked_true : mark marks (get_or r.children i 0) ≡ true → each_marked (mark marks) (drop i (production r).children) ≡ each_marked (mark marks) (drop (i + 1) (production r).children)
-  row_marked_true f = all_marked_true (mark marks) (production r).children i (omega arith) (sym (ap (mark marks) child_at) ∙ f)

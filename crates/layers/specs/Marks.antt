@@ -1,13 +1,13 @@
 -- Marks on states, as a list with one for each, and the rows that they make ready.
-use Rattle.std.specs.Prelude.{◌≡◌, ℕ, zero, suc, ◌+◌, ◌<◌, Bool, true, false, cond, ◌&&◌, ◌⊎◌, List, [], ◌∷◌, Some, slice_index_or}
+use Rattle.std.specs.Prelude.{◌≡◌, ℕ, zero, suc, ◌+◌, ◌<◌, Bool, true, false, cond, ◌⊎◌, List, Some, slice_index_or}
+use Rattle.std.specs.List.{list_all}
 use Rattle.automata.specs.Automaton.{Meaning, Production}
 
 abbrev pub mark : List Bool → ℕ → Bool
 mark marks s = slice_index_or marks s false
 
 abbrev pub each_marked : (ℕ → Bool) → List ℕ → Bool
-each_marked f [] = true
-each_marked f (c ∷ cs) = f c && each_marked f cs
+each_marked f cs = list_all f cs
 
 -- how many of the numbers below n are marked
 abbrev pub marked : (ℕ → Bool) → ℕ → ℕ

@@ -1,56 +1,45 @@
 // Marking the productive states, by rounds over the collected rows.
-ghost use Rattle.std.specs.Prelude.{◌≡◌, ℕ, ◌<◌, ◌≤◌, false, map, length, Decides};
+ghost use Rattle.std.specs.Prelude.{◌≡◌, ℕ, false, map, Decides};
 ghost use Rattle.automata.specs.Automaton.{production};
-ghost use Rattle.layers.specs.Marks.{mark};
-ghost use Rattle.layers.specs.Marks.{Stuck};
-ghost use Rattle.layers.specs.Rows.{TableTo};
+ghost use Rattle.layers.specs.Marks.{mark, Stuck};
 ghost use Rattle.layers.specs.Trim.{Productive};
 ghost use Rattle.layers.specs.Growth.{Grows, SomeReady, AllProductive};
 
-use crate::rows::all_marked;
+use crate::collected::Collected;
+use crate::marks::Marks;
 use automata::automaton::Automaton;
 use automata::row::Row;
 
 // Whether some row has all its children marked.
-fn any_ready(marks: &[bool], rows: &[Row]) -> bool
+fn any_ready(marks: &Marks, rows: &[Row]) -> bool
     ensures { Decides result (SomeReady (mark marks.now) (map production rows.now)) }
 {
-    for row in rows {
-        if all_marked(marks, *row) {
-            return true;
-        }
-    }
-    false
+    rows.iter().any(|row| marks.has_children(*row))
 }
 
-// Marks each state that has a row whose children are marked, and tells whether any was added.
-fn mark_round<A: Automaton>(below: &A, rows: &[Vec<Row>], marks: &mut [bool]) -> bool
-    requires table { TableTo (A.Automaton.meaning below.now) rows.now (A.Automaton.meaning below.now).states }
-    requires long { length marks.old ≡ 1024 }
-    requires right { AllProductive (A.Automaton.meaning below.now) marks.old }
-    ensures grows { Grows marks.old marks.new result }
-    ensures right { AllProductive (A.Automaton.meaning below.now) marks.new }
-    ensures stuck { result ≡ false → Stuck (A.Automaton.meaning below.now) (mark marks.new) (A.Automaton.meaning below.now).states }
-{
-    let mut added = false;
-    for state in 0..below.states() {
-        if !marks[state] && any_ready(marks, rows[state].as_slice()) {
-            marks[state] = true;
-            added = true;
+impl<A: Automaton> Collected<'_, A> {
+    // Marks each state that has a row whose children are marked, and tells whether any was added.
+    fn mark_round(&self, marks: &mut Marks) -> bool
+        requires { AllProductive (A.Automaton.meaning self.now.below.now) (mark marks.old) }
+        ensures grows { Grows (mark marks.old) (mark marks.new) result }
+        ensures right { AllProductive (A.Automaton.meaning self.now.below.now) (mark marks.new) }
+        ensures stuck { result ≡ false → Stuck (A.Automaton.meaning self.now.below.now) (mark marks.new) (A.Automaton.meaning self.now.below.now).states }
+    {
+        let mut added = false;
+        for (state, rows) in self.rows.iter().enumerate() {
+            if !marks.has(state) && any_ready(marks, rows.as_slice()) {
+                added |= marks.add(state);
+            }
         }
+        added
     }
-    added
-}
 
-// The marks of the states that accept some ticket.
-pub(crate) fn productive<A: Automaton>(below: &A, rows: &[Vec<Row>]) -> [bool; 1024]
-    requires { TableTo (A.Automaton.meaning below.now) rows.now (A.Automaton.meaning below.now).states }
-    ensures { (s : ℕ) → Decides (mark result s) (Productive (A.Automaton.meaning below.now) s) }
-{
-    let mut marks = [false; 1024];
-    loop {
-        if !mark_round(below, rows, &mut marks) {
-            return marks;
-        }
+    // The marks of the states that accept some ticket.
+    pub(crate) fn productive(&self) -> Marks
+        ensures { (s : ℕ) → Decides (mark result s) (Productive (A.Automaton.meaning self.now.below.now) s) }
+    {
+        let mut marks = Marks::none();
+        while self.mark_round(&mut marks) {}
+        marks
     }
 }

@@ -11,23 +11,16 @@ use std::alloc::{AllocError, Global};
 fn rows_at<A: Automaton>(heap: Global, below: &A, state: usize) -> Result<Vec<Row>, AllocError>
     ensures { IfOk result (λ v. listing v ≡ rows_of (A.Automaton.meaning below.now) state) }
 {
-    let mut found = Vec::new(heap);
-    for place in 0..below.places() {
-        if let Some(row) = below.row(state, place) {
-            found.push(row)?;
-        }
-    }
-    Ok(found)
+    (0..below.places())
+        .filter_map(|place| below.row(state, place))
+        .collect(heap)
 }
 
 // The rows of every state.
 pub fn table<A: Automaton>(heap: Global, below: &A) -> Result<Vec<Vec<Row>>, AllocError>
     ensures { IfOk result (λ v. TableTo (A.Automaton.meaning below.now) v.items (A.Automaton.meaning below.now).states) }
 {
-    let mut all = Vec::new(heap);
-    for state in 0..below.states() {
-        let rows = rows_at(heap, below, state)?;
-        all.push(rows)?;
-    }
-    Ok(all)
+    (0..below.states())
+        .map(|state| rows_at(heap, below, state))
+        .try_collect(heap)
 }

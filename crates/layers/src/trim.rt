@@ -1,14 +1,13 @@
 // Trim: only the rows that a whole ticket from the root can use.
 ghost use Rattle.std.specs.Prelude.{◌≡◌, true, false, length, drop, is_ok, IfOk};
 ghost use Rattle.tickets.specs.Checked.{ticket_of};
-ghost use Rattle.automata.specs.Table.{HoldsWorths, cells_needed, worth_answer};
+ghost use Rattle.automata.specs.Table.{FillsScratch, worth_answer};
 ghost use Rattle.layers.specs.Marks.{mark};
 ghost use Rattle.layers.specs.Trim.{Trimmed, pruned, TrimPreserves, TrimBarren, TrimOne};
 ghost use Rattle.layers.specs.Soundness.{pruned_sound};
 
-use crate::kept::kept;
-use crate::productive::productive;
-use crate::rows::{all_marked, is_marked};
+use crate::collected::Collected;
+use crate::marks::Marks;
 use crate::table::table;
 use automata::automaton::Automaton;
 use automata::measure::Measure;
@@ -22,24 +21,26 @@ use tickets::checked::CheckedTicket;
 #[derive(Drop)]
 pub struct Trim<A> {
     below: A,
-    productive: Vec<bool>,
-    kept: Vec<bool>,
+    productive: Marks,
+    kept: Marks,
 }
 
 impl<A: Automaton + Drop> Trim<A> {
     // Trims an automaton. Each of its rows is asked for once.
     pub fn new(heap: Global, below: A) -> Result<Trim<A>, AllocError>
-        ensures meaning { IfOk result (λ v. Trimmed (A.Automaton.meaning below) (pruned (mark v.kept.items) (mark v.productive.items) (A.Automaton.meaning v.below))) }
+        ensures meaning { IfOk result (λ v. Trimmed (A.Automaton.meaning below) (pruned (mark v.kept) (mark v.productive) (A.Automaton.meaning v.below))) }
     {
         let rows = table(heap, &below)?;
-        let usable = productive(&below, rows.as_slice());
-        let reached = kept(&below, rows.as_slice(), &usable);
-        let marks = usable.to_vec(heap)?;
-        let kept = reached.to_vec(heap)?;
+        let collected = Collected {
+            below: &below,
+            rows: rows.as_slice(),
+        };
+        let usable = collected.productive();
+        let reached = collected.kept(&usable);
         Ok(Trim {
             below,
-            productive: marks,
-            kept,
+            productive: usable,
+            kept: reached,
         })
     }
 }
@@ -52,10 +53,8 @@ impl<A: Automaton> Trim<A> {
         ticket: &CheckedTicket<'_, '_>,
         scratch: &mut [M],
     ) -> Result<M, WorthRefusal>
-        ensures answers { result ≡ worth_answer M.Measure.ops (pruned (mark self.now.kept.items) (mark self.now.productive.items) (A.Automaton.meaning self.now.below)) (ticket_of ticket.now) (A.Automaton.meaning self.now.below).root (length scratch.old) }
-        ensures cells { is_ok result ≡ true → HoldsWorths M.Measure.ops (pruned (mark self.now.kept.items) (mark self.now.productive.items) (A.Automaton.meaning self.now.below)) (ticket_of ticket.now) scratch.new }
-        ensures beyond { is_ok result ≡ true → drop (cells_needed (pruned (mark self.now.kept.items) (mark self.now.productive.items) (A.Automaton.meaning self.now.below)) (ticket_of ticket.now)) scratch.new ≡ drop (cells_needed (pruned (mark self.now.kept.items) (mark self.now.productive.items) (A.Automaton.meaning self.now.below)) (ticket_of ticket.now)) scratch.old }
-        ensures same { is_ok result ≡ false → scratch.new ≡ scratch.old }
+        ensures answers { result ≡ worth_answer M.Measure.ops (pruned (mark self.now.kept) (mark self.now.productive) (A.Automaton.meaning self.now.below)) (ticket_of ticket.now) (A.Automaton.meaning self.now.below).root (length scratch.old) }
+        ensures fills { FillsScratch M.Measure.ops (pruned (mark self.now.kept) (mark self.now.productive) (A.Automaton.meaning self.now.below)) (ticket_of ticket.now) result scratch.old scratch.new }
         ensures preserves { TrimPreserves M.Measure.ops }
         ensures barren { TrimBarren }
         ensures one { TrimOne }
@@ -65,9 +64,9 @@ impl<A: Automaton> Trim<A> {
 }
 
 impl<A: Automaton> Automaton for Trim<A> {
-    ghost meaning = { λ s. pruned (mark s.kept.items) (mark s.productive.items) (A.Automaton.meaning s.below) };
+    ghost meaning = { λ s. pruned (mark s.kept) (mark s.productive) (A.Automaton.meaning s.below) };
 
-    ghost sound = { λ s. pruned_sound (mark s.kept.items) (mark s.productive.items) (A.Automaton.meaning s.below) (A.Automaton.sound s.below) };
+    ghost sound = { λ s. pruned_sound (mark s.kept) (mark s.productive) (A.Automaton.meaning s.below) (A.Automaton.sound s.below) };
 
     fn states(&self) -> usize {
         self.below.states()
@@ -82,14 +81,11 @@ impl<A: Automaton> Automaton for Trim<A> {
     }
 
     fn row(&self, state: usize, place: usize) -> Option<Row> {
-        if !is_marked(self.kept.as_slice(), state) {
+        if !self.kept.has(state) {
             return None;
         }
-        let row = self.below.row(state, place)?;
-        if all_marked(self.productive.as_slice(), row) {
-            Some(row)
-        } else {
-            None
-        }
+        self.below
+            .row(state, place)
+            .filter(|row| self.productive.has_children(*row))
     }
 }

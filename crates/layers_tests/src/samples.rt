@@ -1,9 +1,22 @@
 // Small automata to put under layers.
-ghost use Rattle.std.specs.Prelude.{◌<◌, ◌≤◌};
+ghost use Rattle.std.specs.Prelude.{◌≡◌, ◌<◌, ◌≤◌, [], ◌∷◌};
+ghost use Rattle.automata.specs.Automaton.{production};
 ghost use Rattle.layers_tests.specs.Samples.{bare, bare_sound, chain, chain_sound, ring, ring_sound};
 
 use automata::automaton::Automaton;
 use automata::row::Row;
+
+// A row of form 1 over a state.
+fn over(child: u16) -> Row
+    ensures { production result ≡ record { form = 1; points = 0; children = child ∷ [] } }
+{
+    Row {
+        form: 1,
+        arity: 1,
+        children: [child, 0, 0, 0],
+        ..Row::default()
+    }
+}
 
 // An automaton without rows.
 #[derive(Clone, Copy)]
@@ -81,21 +94,11 @@ impl Automaton for Chain {
 
     fn row(&self, state: usize, place: usize) -> Option<Row> {
         if state < self.last as usize + 1 && place < 1 {
-            if state == 0 {
-                Some(Row {
-                    form: 0,
-                    points: 0,
-                    arity: 0,
-                    children: [0; 4],
-                })
+            Some(if state == 0 {
+                Row::default()
             } else {
-                Some(Row {
-                    form: 1,
-                    points: 0,
-                    arity: 1,
-                    children: [(state - 1) as u16, 0, 0, 0],
-                })
-            }
+                over((state - 1) as u16)
+            })
         } else {
             None
         }
@@ -136,17 +139,11 @@ impl Automaton for Ring {
 
     fn row(&self, state: usize, place: usize) -> Option<Row> {
         if state < self.last as usize + 1 && place < 1 {
-            let child = if state == 0 {
+            Some(over(if state == 0 {
                 self.last
             } else {
                 (state - 1) as u16
-            };
-            Some(Row {
-                form: 1,
-                points: 0,
-                arity: 1,
-                children: [child, 0, 0, 0],
-            })
+            }))
         } else {
             None
         }

@@ -28,7 +28,7 @@ fn sizes(rt: HostRuntime) {
 // A root without rows is barren; the one ticket of a chain is as deep as the chain.
 #[test]
 fn searches(rt: HostRuntime) -> Result<(), Fail> {
-    let mut lines = [Line { state: 0, place: 0 }; 64];
+    let mut lines = [Line::default(); 64];
     assert!(rt; search(&Bare::new(3, 2), 0, &mut lines)? == 0);
     assert!(rt; search(&Chain::new(40), 40, &mut lines)? == 41);
     assert!(rt; search(&Chain::new(40), 0, &mut lines)? == 1);
@@ -42,7 +42,7 @@ fn piles(rt: HostRuntime) -> Result<(), Fail> {
     Product::check(&chain, &chain)?;
     let trimmed = Trim::new(rt.alloc(), Product::new(chain, chain))?;
     let pile = Merge::new(rt.alloc(), trimmed)?;
-    let mut lines = [Line { state: 0, place: 0 }; 100];
+    let mut lines = [Line::default(); 100];
     assert!(rt; search(&pile, pile.root(), &mut lines)? == 10);
     let short = Chain::new(8);
     Product::check(&chain, &short)?;
@@ -66,13 +66,12 @@ fn merges(rt: HostRuntime) -> Result<(), Fail> {
 #[test]
 fn large_worth(rt: HostRuntime) -> Result<(), Fail> {
     let arities = [0, 1];
-    Forms::check(&arities)?;
-    let forms = Forms::new(&arities);
+    let forms = Forms::checked(&arities)?;
     let mut nodes = [1; 256];
     nodes[0] = 0;
     CheckedTicket::check(&forms, &nodes)?;
     let ticket = CheckedTicket::new(forms, &nodes);
-    let mut scratch = vec![in rt.alloc(); ReadingCount::nothing(); 16384]?;
+    let mut scratch = vec![in rt.alloc(); ReadingCount::NONE; 16384]?;
     let count = worth(&Bare::new(64, 64), &ticket, 63, &mut scratch)?;
     assert_eq!(rt; count.count(), 0);
     Ok(())

@@ -1,9 +1,9 @@
 -- What a list is once its elements moved down by one.
-use Rattle.std.proofs.Common.{◌≡◌, ℕ, ◌+◌, ◌-◌, ◌<◌, ◌≤◌, List, length, get_or, take, drop, set, sym, ap, ◌∙◌, ⊎_elim, add_assoc, arith, rules}
-use Rattle.std.proofs.lemmas.List.{places, same_lists, get_or-set_same, get_or-set_other, length-set, get_or-take, get_or-drop, get_or_default}
+use Rattle.std.proofs.Common.{◌≡◌, ℕ, ◌+◌, ◌-◌, ◌<◌, ◌≤◌, List, length, get_or, take, drop, sym, ap, ◌∙◌, ⊎_elim, add_assoc, arith, rules}
+use Rattle.std.proofs.lemmas.List.{places, same_lists, get_or-take, get_or-drop}
 use Rattle.std.proofs.lemmas.List.Edits.{length-remove, get_or-remove_below, get_or-remove_above}
-use Rattle.std.proofs.lemmas.Bool.{cases_eq, cases_lt}
-use Rattle.std.specs.List.{remove}
+use Rattle.std.proofs.lemmas.Bool.{cases_lt}
+use Rattle.std.specs.List.{remove, CopiedTo, SameBelow, SameFrom}
 use Rattle.ledger.specs.Closed.{closed}
 
 pub closed_length : {X : Type 0} (xs : List X) (at end : ℕ) → at < end → end ≤ length xs → length (closed xs at end) ≡ length xs
@@ -15,28 +15,18 @@ pub closed_get_d : {X : Type 0} (xs : List X) (at end k : ℕ) (d : X) → at < 
 unfolding closed
 closed_get_d xs at end k d h l = (λ p. grind (arith, places), λ p q. grind (arith, places), λ p. grind (arith, places))
 
-pub closed_none : {X : Type 0} (xs : List X) (at : ℕ) → at < length xs → xs ≡ closed xs at (at + 1)
-closed_none xs at h =
-    let l : at + 1 ≤ length xs = omega arith in
-    same_lists _ _ (sym (closed_length xs at (at + 1) (omega arith) l)) (λ k d j.
-    let g = closed_get_d xs at (at + 1) k d (omega arith) l in
-    grind arith)
-
-pub closed_more : {X : Type 0} (xs ys : List X) (at i : ℕ) (z : X) → at < i → i < length xs → ys ≡ closed xs at i → set ys (i - 1) (get_or ys i z) ≡ closed xs at (i + 1)
-closed_more xs ys at i z h l e =
-    let n : length ys ≡ length xs = ap length e ∙ closed_length xs at i h (omega arith) in
-    let m : length (closed xs at (i + 1)) ≡ length xs = closed_length xs at (i + 1) (omega arith) (omega arith) in
-    let s : length (set ys (i - 1) (get_or ys i z)) ≡ length ys = length-set ys (i - 1) (get_or ys i z) in
-    same_lists _ _ (s ∙ n ∙ sym m) (λ k d j.
-    let old : get_or ys k d ≡ get_or (closed xs at i) k d = ap (λ t. get_or t k d) e in
-    let oldi : get_or ys i z ≡ get_or (closed xs at i) i z = ap (λ t. get_or t i z) e in
-    let a = closed_get_d xs at i k d h (omega arith) in
-    let b = closed_get_d xs at i i z h (omega arith) in
-    let g = closed_get_d xs at (i + 1) k d (omega arith) (omega arith) in
-    let q = cases_eq k (i - 1) in
-    let w = cases_lt k at in
-    let v = cases_lt k i in
-    grind (arith, get_or-set_same, get_or-set_other, get_or_default))
+-- a list that copied the elements after `at` down by one
+pub closed_from : {X : Type 0} (xs ys : List X) (at end : ℕ) → at < end → end ≤ length xs → length ys ≡ length xs
+    → CopiedTo xs ys (at + 1) at (end - (at + 1)) → SameBelow xs ys at → SameFrom xs ys (at + (end - (at + 1))) → ys ≡ closed xs at end
+closed_from xs ys at end h l n moved below from = same_lists _ _ (n ∙ sym (closed_length xs at end h l)) (λ k d j.
+    let g = closed_get_d xs at end k d h l in
+    ⊎_elim
+    (λ (lt : k < at). below k d lt ∙ sym (g.0 lt))
+    (λ (ge : at ≤ k). ⊎_elim
+    (λ (lt : k + 1 < end). let e : at + 1 + (k - at) ≡ k + 1 = omega arith in moved k d ge (omega arith) ∙ ap (λ m. get_or xs m d) e ∙ sym (g.1 ge lt))
+    (λ (le : end ≤ k + 1). from k d (omega arith) ∙ sym (g.2 le))
+    (cases_lt (k + 1) end))
+    (cases_lt k at))
 
 pub closed_front : {X : Type 0} (xs : List X) (at end n : ℕ) → at < end → end ≤ length xs → n ≤ at → take n (closed xs at end) ≡ take n xs
 closed_front xs at end n h l m =

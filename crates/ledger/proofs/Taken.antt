@@ -1,6 +1,9 @@
 -- What an answer that is no refusal says of its checks.
-use Rattle.std.proofs.Common.{◌≡◌, ℕ, ◌<◌, ◌≤◌, Bool, true, false, cond, ◌&&◌, eqb, ltb, leb, List, length, get_or, is_ok, Ok, Err, Result, sym, refl, arith}
-use Rattle.std.proofs.lemmas.Bool.{true≢false, leb-false, ltb-false, lt-ltb, le-leb, eqb-true, and_from}
+use Rattle.std.proofs.Common.{◌≡◌, ℕ, ◌<◌, ◌≤◌, Bool, true, false, cond, ◌&&◌, eqb, ltb, leb, List, length, get_or, take, is_ok, Some, None, Ok, Err, Result, sym, refl, ◌∙◌, ⊎_elim, arith}
+use Rattle.std.specs.List.{slice_get}
+use Rattle.std.proofs.lemmas.List.{get_or-take, length-take}
+use Rattle.std.proofs.lemmas.Option.{slice_get_within, slice_get-get_or, get_or_from_slice_get}
+use Rattle.std.proofs.lemmas.Bool.{cases_lt, true≢false, leb-false, ltb-false, lt-ltb, le-leb, eqb-true, and_from}
 use Rattle.automata.specs.Automaton.{Production, all_below}
 use Rattle.refusals.specs.declared.refusal.RegisterRefusal.{RegisterRefusal}
 use Rattle.refusals.specs.declared.refusal.RegisterRefusal.TheVariants.{NoState, NoForm, HighPoints, ChildCount, NoChild, FullState}
@@ -25,6 +28,19 @@ ok_value (Err e) h = absurd (true≢false (sym h))
 
 ok_is : (n k : ℕ) → ◌≡◌ {A = Result ℕ RegisterRefusal} (Ok n) (Ok k) → n ≡ k
 ok_is n k e = cc
+
+-- what stands among the first n numbers, and what does not
+pub found : (n : ℕ) (xs : List ℕ) (i x : ℕ) → slice_get (take n xs) i ≡ Some x → (i < n) × (get_or xs i 0 ≡ x)
+found n xs i x e =
+    let l = slice_get_within (take n xs) i x e in
+    let m : i < n = omega (arith, length-take n xs) in
+    (m, sym (get_or-take n xs i 0 m) ∙ get_or_from_slice_get (take n xs) i x 0 e)
+
+pub missing : (n : ℕ) (xs : List ℕ) (i : ℕ) → n ≤ length xs → slice_get (take n xs) i ≡ None → n ≤ i
+missing n xs i h e =
+    ⊎_elim
+    (λ (l : i < n). let w : i < length (take n xs) = omega (arith, length-take n xs) in let f = slice_get-get_or (take n xs) i 0 w in let z : ◌≡◌ {A = ℕ} 0 1 = cc in absurd (omega arith))
+    (λ (l : n ≤ i). l) (cases_lt i n)
 
 -- a row that passes its checks
 pub record Taken (arities : List ℕ) (states used s : ℕ) (p : Production) (n : ℕ) : Type 0 where

@@ -1,6 +1,6 @@
-// Work on the lent rows and the table: checking and storing a row, striking one.
+// Work on the lent rows and the table: checking and storing a row, striking one. The two stay two parameters: by a rule of
+// the project the rows lie in the caller's list, and the table is a plain value beside it.
 ghost use Rattle.std.specs.Prelude.{◌≡◌, ◌+◌, ◌-◌, ◌*◌, ◌<◌, ◌≤◌, true, false, length, take, is_ok, slice_index, slice_set};
-ghost use Rattle.automata.specs.Automaton.{all_below};
 ghost use Rattle.ledger.specs.Ledger.{enter, add_row, strike_row, as_row, row_answer, entry_answer, unnumbered, step};
 ghost use Rattle.ledger.specs.Layout.{laid_out, Sane};
 ghost use Rattle.ledger.specs.Closed.{closed};
@@ -9,23 +9,12 @@ use crate::table::Table;
 use automata::row::Row;
 use refusals::refusal::RegisterRefusal;
 
+// By a rule of the project a store goes through a function that takes the whole list for writing.
 fn store(rows: &mut [Row], at: usize, row: Row)
     requires { at < length rows.old }
     ensures { rows.new ≡ slice_set rows.old at row }
 {
     rows[at] = row;
-}
-
-// Whether every child is a state.
-fn all_known(children: &[u16], states: usize) -> bool
-    ensures { result ≡ all_below states children.now }
-{
-    for child in children {
-        if *child as usize >= states {
-            return false;
-        }
-    }
-    true
 }
 
 // The children as a row keeps them.
@@ -34,9 +23,7 @@ fn child_array(children: &[u16]) -> [u16; 4]
     ensures { take (length children.now) result ≡ children.now }
 {
     let mut all = [0; 4];
-    for (i, child) in children.iter().enumerate() {
-        all[i] = *child;
-    }
+    all[..children.len()].copy_from_slice(children);
     all
 }
 
@@ -52,26 +39,24 @@ fn judged(
     requires states { table.now.states ≤ 64 }
     ensures { result ≡ row_answer (take table.now.forms table.now.arities) table.now.states (slice_index table.now.counts state) state (as_row form points children.now) }
 {
-    if state >= table.states {
-        return Err(RegisterRefusal::NoState);
-    }
-    if form as usize >= table.forms {
-        return Err(RegisterRefusal::NoForm);
-    }
+    let used = table.used(state).ok_or(RegisterRefusal::NoState)?;
+    let arity = table.arity(form as usize).ok_or(RegisterRefusal::NoForm)?;
     if points > 1000 {
         return Err(RegisterRefusal::HighPoints);
     }
-    if children.len() != table.arities[form as usize] as usize {
+    if children.len() != arity as usize {
         return Err(RegisterRefusal::ChildCount);
     }
-    if !all_known(children, table.states) {
+    if !children
+        .iter()
+        .all(|child| (*child as usize) < table.states)
+    {
         return Err(RegisterRefusal::NoChild);
     }
-    let used = table.counts[state] as usize;
     if used >= 32 {
         return Err(RegisterRefusal::FullState);
     }
-    Ok(used)
+    Ok(used as usize)
 }
 
 // Stores a row behind the state's others, unless it is refused.
@@ -107,9 +92,7 @@ fn close(rows: &mut [Row], at: usize, end: usize)
     requires within { end ≤ length rows.old }
     ensures { rows.new ≡ closed rows.old at end }
 {
-    for i in at + 1..end {
-        rows[i - 1] = rows[i];
-    }
+    rows.copy_within(at + 1..end, at);
 }
 
 // Takes a row from its state, unless there is none.
@@ -125,10 +108,7 @@ pub fn take_row(
     ensures same { is_ok result ≡ false → rows.new ≡ rows.old }
     ensures sane { Sane rows.new table.new }
 {
-    if state >= table.states {
-        return Err(RegisterRefusal::NoState);
-    }
-    let used = table.counts[state] as usize;
+    let used = table.used(state).ok_or(RegisterRefusal::NoState)? as usize;
     if place >= used {
         return Err(RegisterRefusal::NoRow);
     }

@@ -1,8 +1,12 @@
 -- The lines of a register's counts, root and rows, one behind another.
-use Rattle.std.proofs.Common.{◌≡◌, ℕ, zero, suc, ◌+◌, ◌*◌, ◌<◌, ◌≤◌, true, leb, List, [], ◌∷◌, ◌++◌, length, drop, Some, None, ap, ◌∙◌, append_assoc, add-one, arith}
+use Rattle.std.proofs.Common.{◌≡◌, ℕ, zero, suc, ◌+◌, ◌*◌, ◌<◌, ◌≤◌, true, leb, List, [], ◌∷◌, ◌++◌, length, get_or, drop, Some, None, ap, ◌∙◌, append_assoc, add-one, arith}
 use Rattle.std.proofs.lemmas.List.{drop_more}
 use Rattle.std.proofs.lemmas.Bool.{and_parts, leb-true}
+use Rattle.std.specs.List.{fold}
 use Rattle.automata.specs.Automaton.{Production}
+use Rattle.register.specs.declared.sealed.Sealed.{Sealed}
+use Rattle.register.specs.Held.{held_sealed}
+use Rattle.ledger.specs.Soundness.{good_from}
 use Rattle.ledger.specs.Ledger.{Ledger, nth, every, rows_at}
 use Rattle.ledger.specs.Layout.{fits, fair, Good}
 use Rattle.text.specs.Text.{figure, row_text}
@@ -24,9 +28,6 @@ pub rows_more : (names : List (List ℕ)) (whole was is : List ℕ) (l : Ledger)
 rows_more names whole was is l s lt h e =
     piece whole was is (state_text names s (rows_at l s)) (rows_text names (s + 1) (drop (s + 1) l.rows)) (goes (rows_text names s) whole was (drop s l.rows) (rows_at l s ∷ drop (s + 1) l.rows) (drop_more l.rows s [] lt) h) e
 
-pub count_more : (l : Ledger) (s : ℕ) → s < length l.rows → row_count (drop s l.rows) ≡ length (rows_at l s) + row_count (drop (s + 1) l.rows)
-count_more l s lt = ap row_count (drop_more l.rows s [] lt)
-
 -- a good ledger has at most 32 rows for each of at most 64 states
 count_short : (arities : List ℕ) (n : ℕ) (rs : List (List Production)) → every (fair arities n) rs ≡ true → row_count rs ≤ 32 * length rs
 count_short arities n [] h = omega arith
@@ -35,8 +36,26 @@ count_short arities n (ps ∷ rs) h =
     let one = and_parts (leb (length ps) 32) (every (fits arities n) ps) both.0 in
     omega (arith, leb-true (length ps) 32 one.0, count_short arities n rs both.1)
 
-pub count_low : (l : Ledger) → Good l → row_count l.rows ≤ 2048
+count_low : (l : Ledger) → Good l → row_count l.rows ≤ 2048
 count_low l g = omega (arith, count_short l.arities (length l.rows) l.rows g.rows, g.few)
+
+-- the numbers of rows of the states from the first on, added up
+part_total : (rs : List (List Production)) (xs : List ℕ) (a : ℕ) → length xs ≤ length rs → ((k : ℕ) → k < length xs → get_or xs k 0 ≡ length (get_or rs k [])) → fold (λ a x. a + x) a xs ≤ a + row_count rs
+part_total rs [] a le h = omega arith
+part_total [] (x ∷ xs) a le h = absurd (omega arith)
+part_total (ps ∷ rs) (x ∷ xs) a le h = omega (arith, h 0 (omega arith), part_total rs xs (a + x) (omega arith) (λ k lt. h (suc k) (omega arith)))
+
+all_total : (rs : List (List Production)) (xs : List ℕ) (a : ℕ) → length xs ≡ length rs → ((k : ℕ) → k < length xs → get_or xs k 0 ≡ length (get_or rs k [])) → fold (λ a x. a + x) a xs ≡ a + row_count rs
+all_total [] [] a le h = omega arith
+all_total (ps ∷ rs) [] a le h = absurd (omega arith)
+all_total [] (x ∷ xs) a le h = absurd (omega arith)
+all_total (ps ∷ rs) (x ∷ xs) a le h = omega (arith, h 0 (omega arith), all_total rs xs (a + x) (omega arith) (λ k lt. h (suc k) (omega arith)))
+
+pub total_fits : (v : Sealed) (xs : List ℕ) → length xs ≤ length (held_sealed v).rows → ((k : ℕ) → k < length xs → get_or xs k 0 ≡ length (rows_at (held_sealed v) k)) → fold (λ a x. a + x) 0 xs < 18446744073709551616
+total_fits v xs le h = omega (arith, part_total (held_sealed v).rows xs 0 le h, count_low (held_sealed v) (good_from (held_sealed v) v.good))
+
+pub total_whole : (v : Sealed) (xs : List ℕ) → length xs ≡ length (held_sealed v).rows → ((k : ℕ) → k < length xs → get_or xs k 0 ≡ length (rows_at (held_sealed v) k)) → fold (λ a x. a + x) 0 xs ≡ row_count (held_sealed v).rows
+total_whole v xs le h = omega (arith, all_total (held_sealed v).rows xs 0 le h)
 
 pub state_more : (names : List (List ℕ)) (s : ℕ) (whole was is : List ℕ) (ps : List Production) (i : ℕ) (p : Production) → nth ps i ≡ Some p → was ++ state_text names s (drop i ps) ≡ whole → is ≡ was ++ row_text names s p → is ++ state_text names s (drop (i + 1) ps) ≡ whole
 state_more names s whole was is ps i p at h e =

@@ -6,13 +6,12 @@ ghost use Rattle.listing.specs.Listing.{state_text, rows_text, row_count};
 
 use automata::automaton::Automaton;
 use register::sealed::Sealed;
-use std::alloc::{AllocError, Global};
+use std::alloc::AllocError;
 use text::put::put_row;
 
 // Puts a line for each row of a state.
 fn put_state_rows(
     out: &mut Vec<u8>,
-    heap: Global,
     names: &[Vec<u8>],
     sealed: &Sealed<'_>,
     state: usize,
@@ -20,25 +19,21 @@ fn put_state_rows(
     ensures { OnOk result (out.new.items ≡ out.old.items ++ state_text (map vec_items names.now) state (rows_at (held_sealed sealed.now) state)) }
 {
     let book = sealed.book();
+    // a loop: each line can fail, and `?` ends the loop
     for place in 0..sealed.rows_of(state) {
         if let Some(row) = book.row(state, place) {
-            put_row(out, heap, names, state, row)?;
+            put_row(out, names, state, row)?;
         }
     }
     Ok(())
 }
 
 // Puts the rows of all states.
-pub fn put_rows(
-    out: &mut Vec<u8>,
-    heap: Global,
-    names: &[Vec<u8>],
-    sealed: &Sealed<'_>,
-) -> Result<(), AllocError>
+pub fn put_rows(out: &mut Vec<u8>, names: &[Vec<u8>], sealed: &Sealed<'_>) -> Result<(), AllocError>
     ensures { OnOk result (out.new.items ≡ out.old.items ++ rows_text (map vec_items names.now) 0 (held_sealed sealed.now).rows) }
 {
     for state in 0..sealed.states() {
-        put_state_rows(out, heap, names, sealed, state)?;
+        put_state_rows(out, names, sealed, state)?;
     }
     Ok(())
 }
@@ -47,9 +42,7 @@ pub fn put_rows(
 pub fn count_rows(sealed: &Sealed<'_>) -> usize
     ensures { result ≡ row_count (held_sealed sealed.now).rows }
 {
-    let mut total = 0;
-    for state in 0..sealed.states() {
-        total += sealed.rows_of(state);
-    }
-    total
+    (0..sealed.states())
+        .map(|state| sealed.rows_of(state))
+        .sum()
 }

@@ -11,22 +11,22 @@ use text::put::put_number;
 use verdicts::ticket_lines::put_tickets;
 
 // Puts the numbers of states and of rows.
-fn put_counts(out: &mut Vec<u8>, heap: Global, sealed: &Sealed<'_>) -> Result<(), AllocError>
+fn put_counts(out: &mut Vec<u8>, sealed: &Sealed<'_>) -> Result<(), AllocError>
     ensures { OnOk result (out.new.items ≡ out.old.items ++ counts_text (held_sealed sealed.now)) }
 {
     out.push(b'N')?;
-    put_number(out, heap, sealed.states())?;
-    put_number(out, heap, count_rows(sealed))?;
+    put_number(out, sealed.states())?;
+    put_number(out, count_rows(sealed))?;
     out.push(b'\n')?;
     Ok(())
 }
 
 // Puts the root.
-fn put_root(out: &mut Vec<u8>, heap: Global, sealed: &Sealed<'_>) -> Result<(), AllocError>
+fn put_root(out: &mut Vec<u8>, sealed: &Sealed<'_>) -> Result<(), AllocError>
     ensures { OnOk result (out.new.items ≡ out.old.items ++ root_text (held_sealed sealed.now)) }
 {
     out.push(b'G')?;
-    put_number(out, heap, sealed.root())?;
+    put_number(out, sealed.root())?;
     out.push(b'\n')?;
     Ok(())
 }
@@ -41,9 +41,9 @@ pub fn listing(
     ensures answers { Answers (listing_answer (map vec_items names.now) (held_sealed sealed.now) (map vec_items tickets.now)) result }
 {
     let mut out = Vec::new(heap);
-    put_counts(&mut out, heap, sealed)?;
-    put_root(&mut out, heap, sealed)?;
-    put_rows(&mut out, heap, names, sealed)?;
-    put_tickets(&mut out, heap, sealed, tickets)?;
+    put_counts(&mut out, sealed)?;
+    put_root(&mut out, sealed)?;
+    put_rows(&mut out, names, sealed)?;
+    put_tickets(&mut out, sealed, tickets)?;
     Ok(out)
 }

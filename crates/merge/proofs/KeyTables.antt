@@ -1,5 +1,5 @@
--- The steps of the loops that fill tables of keys, and a round from its parts.
-use Rattle.std.proofs.Common.{◌≡◌, ℕ, ◌+◌, ◌<◌, List, [], ◌∷◌, ◌++◌, map, length, get_or, vec_items, Vec, sym, ap, ◌∙◌, subst, arith}
+-- A table of keys with one more state, and a round from its parts.
+use Rattle.std.proofs.Common.{◌≡◌, ℕ, ◌+◌, ◌<◌, List, [], ◌∷◌, ◌++◌, map, length, get_or, vec_items, Vec, sym, ap, ◌∙◌, subst}
 use Rattle.std.specs.declared.alloc.Global.{Global}
 use Rattle.std.proofs.lemmas.List.{map_push, length_push, length-map, get_or-map}
 use Rattle.automata.specs.declared.row.Row.{Row}
@@ -8,7 +8,7 @@ use Rattle.merge.specs.declared.row_key.RowKey.{RowKey}
 use Rattle.layers.specs.Rows.{listing, table_rows}
 use Rattle.automata.specs.Rows.{renamed}
 use Rattle.merge.specs.Merge.{at}
-use Rattle.merge.specs.Refine.{Keys, keys_at, LowestKeyed, KeysTo, NamesTo, Refined}
+use Rattle.merge.specs.Refine.{Keys, keys_at, LowestKeyed, KeysTo, Refined}
 use Rattle.layers.proofs.Collecting.{below_push}
 use Rattle.merge.proofs.Keys.{lowest_from_keys}
 
@@ -23,18 +23,10 @@ keys_more g vs ks ks' v w k lv at e here h =
           (below_push P (map vec_items ks) (vec_items w) [] k (length-map ks vec_items ∙ h.long) h.holds (subst Q (sym i) here) q l);
     }
 
-pub names_more : (gs : List ℕ) (ks : List (Vec RowKey Global)) (xs xs' : List ℕ) (x k : ℕ) → xs' ≡ xs ++ x ∷ [] → LowestKeyed gs ks k x → NamesTo gs ks xs k → NamesTo gs ks xs' (k + 1)
-names_more gs ks xs xs' x k e here h =
-    let P : ℕ → ℕ → Type 0 = λ p r. LowestKeyed gs ks p r in
-    record {
-      long = ap length e ∙ length_push xs x ∙ ap (λ n. n + 1) h.long;
-      holds = λ p l. subst (P p) (sym (ap (λ z. get_or z p 0) e)) (below_push P xs x 0 k h.long h.holds here p l);
-    }
-
-pub refined_all : (vs : List (Vec Row Global)) (gs : List ℕ) (ks : List (Vec RowKey Global)) (xs : List ℕ) (n : ℕ) → n ≡ length vs → KeysTo (at gs) vs ks (length vs) → NamesTo gs ks xs n → Refined vs gs xs
-refined_all vs gs ks xs n e keyed h = record {
-  long = h.long ∙ e;
-  round = λ p l. lowest_from_keys (length vs) (table_rows vs) gs ks keyed.holds p (at xs p) l (h.holds p (omega arith));
+pub refined_all : (vs : List (Vec Row Global)) (gs : List ℕ) (ks : List (Vec RowKey Global)) (xs : List ℕ) → KeysTo (at gs) vs ks (length vs) → length xs ≡ length vs → ((p : ℕ) → p < length vs → LowestKeyed gs ks p (at xs p)) → Refined vs gs xs
+refined_all vs gs ks xs keyed long named = record {
+  long = long;
+  round = λ p l. lowest_from_keys (length vs) (table_rows vs) gs ks keyed.holds p (at xs p) l (named p l);
 }
 
 pub keys_read : (ks : List (Vec RowKey Global)) (k : ℕ) (v : Vec RowKey Global) → k < length ks → v ≡ get_or ks k v → keys_at ks k ≡ vec_items v

@@ -2,7 +2,6 @@ pub mod Tally
 pub mod Merging
 pub mod Merges
 pub mod Keys
-pub mod Keying
 pub mod KeyTables
 pub mod Refining
-pub mod Renaming
+pub mod Keying

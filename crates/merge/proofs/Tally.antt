@@ -1,36 +1,24 @@
 -- Equal counts of rows give equal sums of any function of the row.
-use Rattle.std.proofs.Common.{◌≡◌, ℕ, ◌+◌, ◌<◌, Bool, true, false, cond, ◌&&◌, eqb, List, [], ◌∷◌, sym, refl, ap, ◌∙◌, add_assoc, add_comm, arith}
+use Rattle.std.proofs.Common.{◌≡◌, ◌+◌, ◌<◌, Bool, true, false, cond, ◌&&◌, eqb, nat_eq, List, [], ◌∷◌, sym, refl, ap, ◌∙◌, add_assoc, add_comm, arith}
+use Rattle.std.specs.Cmp.Lexicographic.{pointwise}
+use Rattle.std.proofs.lemmas.Slice.Eq.{bytes_eq-Decides}
 use Rattle.std.proofs.lemmas.Bool.{eqb-true, eq-eqb, and_parts, and_from}
 use Rattle.automata.specs.Automaton.{Production}
-use Rattle.merge.specs.Merge.{same, same_list, tally}
-
-same_list_true : (xs ys : List ℕ) → same_list xs ys ≡ true → xs ≡ ys
-same_list_true [] [] e = refl
-same_list_true [] (y ∷ ys) e = cc
-same_list_true (x ∷ xs) [] e = cc
-same_list_true (x ∷ xs) (y ∷ ys) e =
-    let h = and_parts (eqb x y) (same_list xs ys) e in
-    let a = eqb-true x y h.0 in
-    let b = same_list_true xs ys h.1 in
-    cc
-
-same_list_refl : (xs : List ℕ) → same_list xs xs ≡ true
-same_list_refl [] = refl
-same_list_refl (x ∷ xs) = and_from (eqb x x) (same_list xs xs) (eq-eqb x x refl) (same_list_refl xs)
+use Rattle.merge.specs.Merge.{same, tally}
 
 pub same_true : (p q : Production) → same p q ≡ true → p ≡ q
 same_true p q e =
-    let h = and_parts (eqb p.form q.form) (eqb p.points q.points && same_list p.children q.children) e in
-    let k = and_parts (eqb p.points q.points) (same_list p.children q.children) h.1 in
+    let h = and_parts (eqb p.form q.form) (eqb p.points q.points && pointwise nat_eq p.children q.children) e in
+    let k = and_parts (eqb p.points q.points) (pointwise nat_eq p.children q.children) h.1 in
     let a : p.form ≡ q.form = eqb-true p.form q.form h.0 in
     let b : p.points ≡ q.points = eqb-true p.points q.points k.0 in
-    let c : p.children ≡ q.children = same_list_true p.children q.children k.1 in
+    let c : p.children ≡ q.children = (bytes_eq-Decides p.children q.children).0 k.1 in
     λ i. record { form = a i; points = b i; children = c i }
 
 pub same_refl : (p : Production) → same p p ≡ true
 same_refl p =
     and_from (eqb p.form p.form) _ (eq-eqb p.form p.form refl)
-    (and_from (eqb p.points p.points) _ (eq-eqb p.points p.points refl) (same_list_refl p.children))
+    (and_from (eqb p.points p.points) _ (eq-eqb p.points p.points refl) ((bytes_eq-Decides p.children p.children).1 refl))
 
 -- the list with one such row taken out
 abbrev without : Production → List Production → List Production

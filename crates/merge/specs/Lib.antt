@@ -1,4 +1,3 @@
 pub mod Merge
 pub mod Refine
 pub mod Soundness
-pub mod KeyOrder

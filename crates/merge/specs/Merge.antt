@@ -1,20 +1,15 @@
 -- Merge: states that some grouping that respects the rows joins become one.
-use Rattle.std.specs.Prelude.{◌≡◌, ℕ, ◌+◌, ◌<◌, ◌≤◌, Bool, true, false, cond, ◌&&◌, ◌↔◌, List, [], ◌∷◌, map, None, ◌==◌, nat_lt, slice_index}
+use Rattle.std.specs.Prelude.{◌≡◌, ℕ, ◌+◌, ◌<◌, ◌≤◌, Bool, cond, ◌&&◌, ◌↔◌, List, [], ◌∷◌, map, None, ◌==◌, nat_lt, slice_index}
 use Rattle.std.specs.Option.{option_map}
+use Rattle.std.specs.Cmp.Lexicographic.{pointwise}
 use Rattle.tickets.specs.Ticket.{Ticket}
 use Rattle.automata.specs.Automaton.{Meaning, Production, Sound}
 use Rattle.automata.specs.Measure.{Ops}
 use Rattle.automata.specs.Worth.{worth}
 use Rattle.automata.specs.Rows.{rows_of, renamed}
 
-abbrev pub same_list : List ℕ → List ℕ → Bool
-same_list [] [] = true
-same_list [] (y ∷ ys) = false
-same_list (x ∷ xs) [] = false
-same_list (x ∷ xs) (y ∷ ys) = x == y && same_list xs ys
-
 abbrev pub same : Production → Production → Bool
-same p q = p.form == q.form && (p.points == q.points && same_list p.children q.children)
+same p q = p.form == q.form && (p.points == q.points && pointwise ◌==◌ p.children q.children)
 
 -- how many rows of a list are the given one
 abbrev pub tally : Production → List Production → ℕ

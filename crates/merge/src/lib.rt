@@ -2,7 +2,6 @@
 
 #![tactic(auto)]
 
-mod key_order;
 pub mod merge;
 mod refine;
 mod row_key;

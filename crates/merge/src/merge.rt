@@ -1,9 +1,7 @@
 // Merge: states that some grouping that respects the rows joins become one.
 ghost use Rattle.std.specs.Prelude.{◌≡◌, ℕ, ◌≤◌, true, false, length, drop, is_ok, IfOk};
-ghost use Rattle.automata.specs.Automaton.{production};
 ghost use Rattle.tickets.specs.Checked.{ticket_of};
-ghost use Rattle.automata.specs.Table.{HoldsWorths, cells_needed, worth_answer};
-ghost use Rattle.automata.specs.Rows.{renamed};
+ghost use Rattle.automata.specs.Table.{FillsScratch, worth_answer};
 ghost use Rattle.merge.specs.Merge.{merged, at, Coarsest, MergeJoins, MergeOne, MergePreserves};
 ghost use Rattle.merge.specs.Soundness.{merged_sound};
 
@@ -22,23 +20,6 @@ pub struct Merge<A> {
     pub(crate) below: A,
     pub(crate) representatives: Vec<u16>,
     ghost low: { (p : ℕ) → at representatives.items p ≤ p },
-}
-
-// A row with its children read as groups.
-fn regrouped(groups: &Vec<u16>, row: Row) -> Row
-    ensures { production result ≡ renamed (at groups.now.items) (production row) }
-{
-    Row {
-        form: row.form,
-        points: row.points,
-        arity: row.arity,
-        children: [
-            group_of(groups, row.children[0] as usize),
-            group_of(groups, row.children[1] as usize),
-            group_of(groups, row.children[2] as usize),
-            group_of(groups, row.children[3] as usize),
-        ],
-    }
 }
 
 impl<A: Automaton + Drop> Merge<A> {
@@ -65,9 +46,7 @@ impl<A: Automaton> Merge<A> {
         scratch: &mut [M],
     ) -> Result<M, WorthRefusal>
         ensures answers { result ≡ worth_answer M.Measure.ops (merged (A.Automaton.meaning self.now.below) (at self.now.representatives.items)) (ticket_of ticket.now) state (length scratch.old) }
-        ensures cells { is_ok result ≡ true → HoldsWorths M.Measure.ops (merged (A.Automaton.meaning self.now.below) (at self.now.representatives.items)) (ticket_of ticket.now) scratch.new }
-        ensures beyond { is_ok result ≡ true → drop (cells_needed (merged (A.Automaton.meaning self.now.below) (at self.now.representatives.items)) (ticket_of ticket.now)) scratch.new ≡ drop (cells_needed (merged (A.Automaton.meaning self.now.below) (at self.now.representatives.items)) (ticket_of ticket.now)) scratch.old }
-        ensures same { is_ok result ≡ false → scratch.new ≡ scratch.old }
+        ensures fills { FillsScratch M.Measure.ops (merged (A.Automaton.meaning self.now.below) (at self.now.representatives.items)) (ticket_of ticket.now) result scratch.old scratch.new }
         ensures preserves { MergePreserves M.Measure.ops }
         ensures joins { MergeJoins }
         ensures one { MergeOne }
@@ -94,16 +73,11 @@ impl<A: Automaton> Automaton for Merge<A> {
     }
 
     fn row(&self, state: usize, place: usize) -> Option<Row> {
-        if state < self.below.states() {
-            match self
-                .below
-                .row(group_of(&self.representatives, state) as usize, place)
-            {
-                Some(row) => Some(regrouped(&self.representatives, row)),
-                None => None,
-            }
-        } else {
-            None
+        if state >= self.below.states() {
+            return None;
         }
+        let groups = &self.representatives;
+        let row = self.below.row(group_of(groups, state) as usize, place)?;
+        Some(row.renamed(groups))
     }
 }

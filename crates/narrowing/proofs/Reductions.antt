@@ -1,5 +1,5 @@
 -- Trim and then merge: sound, of one outcome, and the worth from the root stays.
-use Rattle.std.proofs.Common.{◌≡◌, ℕ, ◌<◌, Bool, true, false, cond, ltb, List, [], ◌∷◌, map, Some, None, Err, Option, sym, refl, ap, ◌∙◌, subst, ap₂, arith}
+use Rattle.std.proofs.Common.{◌≡◌, ℕ, ◌<◌, Bool, true, false, cond, ltb, List, [], ◌∷◌, map, Some, None, Ok, Err, Option, Result, sym, refl, ap, ◌∙◌, subst, ap₂, arith}
 use mathlib.Core.Path.{fun_ext}
 use Rattle.std.specs.Option.{option_map}
 use Rattle.std.proofs.lemmas.Bool.{and_parts, ltb-true}
@@ -15,10 +15,15 @@ use Rattle.merge.specs.Merge.{Coarsest, merged}
 use Rattle.merge.proofs.Merges.{merge_preserves}
 use Rattle.merge.proofs.Merging.{merge_one}
 use Rattle.narrowing.specs.Reduced.{Reduced, ReducedOne, ReducedPreserves}
-use Rattle.ledger.specs.Ledger.{Ledger}
+use Rattle.refusals.specs.declared.refusal.SettleRefusal.{SettleRefusal}
+use Rattle.ledger.specs.Ledger.{Ledger, settle, settle_answer, step}
+use Rattle.register.specs.declared.open.Open.{Open}
+use Rattle.register.specs.Held.{held}
+use Rattle.settle.proofs.EntriesMade.{settle_refused}
+use Rattle.fields.specs.declared.fault.Fault.{Fault}
 use Rattle.fields.specs.declared.fault.Stop.{Stop}
 use Rattle.fields.specs.declared.fault.Stop.TheVariants.{Refused, Memory}
-use Rattle.narrowing.specs.Narrows.{BarrenTold, Settles, Narrows}
+use Rattle.narrowing.specs.Narrows.{BarrenTold, Settles, Narrows, at_settle}
 use Rattle.narrowing.proofs.YesLaws.{yes_laws}
 
 none_some : (x : Option Production) (p : Production) → x ≡ None → x ≡ Some p → ⊥
@@ -109,3 +114,11 @@ barren_before m sm p h b told =
 pub stops_narrowing : (m p : Meaning) (was is : Ledger) → Reduced m p → (e : Stop) → Settles p was (Err e) is → Narrows m was (Err e) is
 stops_narrowing m p was is w (Refused f) h = (p, w, h.0, h.1)
 stops_narrowing m p was is w Memory h = absurd h
+
+-- a settle that is refused leaves the ledger
+pub settle_left : (o : Open) (m : Meaning) (r : Result (Unit {0}) SettleRefusal) (f : Fault) → r ≡ settle_answer (held o) m → at_settle r ≡ Err f → step (held o) (settle m) ≡ held o
+settle_left o m (Ok _) f e a = cc
+settle_left o m (Err x) f e a = sym (settle_refused o m x e)
+
+pub settle_stopped : (o : Open) (m : Meaning) (is : Ledger) (r : Result (Unit {0}) SettleRefusal) (f : Fault) → r ≡ settle_answer (held o) m → at_settle r ≡ Err f → is ≡ step (held o) (settle m) → Settles m (held o) (Err (Refused f)) is
+settle_stopped o m is r f e a i = (ap at_settle (sym e) ∙ a, i ∙ settle_left o m r f e a)

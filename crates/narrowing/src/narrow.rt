@@ -8,7 +8,6 @@ use automata::automaton::Automaton;
 use fields::fault::{Fault, Stop};
 use layers::trim::Trim;
 use merge::merge::Merge;
-use refusals::refusal::Refusal;
 use register::open::Open;
 use search::line::Line;
 use search::search::search;
@@ -20,7 +19,7 @@ use std::alloc::{AllocError, Global};
 fn is_barren<A: Automaton>(heap: Global, automaton: &A) -> Result<bool, AllocError>
     ensures { IfOk result (λ b. BarrenTold (A.Automaton.meaning automaton.now) b) }
 {
-    let mut lines = vec![in heap; Line { state: 0, place: 0 }; automaton.states()]?;
+    let mut lines = vec![in heap; Line::default(); automaton.states()]?;
     let answer = search(automaton, automaton.root(), &mut lines);
     Ok(answer.unwrap() == 0)
 }
@@ -30,10 +29,8 @@ fn settled<A: Automaton>(pile: &A, target: &mut Open<'_>) -> Result<(), Stop>
     ensures settles { Settles (A.Automaton.meaning pile.now) (held target.old) result (held target.new) }
     ensures same { is_ok result ≡ false → lent target.new ≡ lent target.old }
 {
-    match settle(pile, target) {
-        Ok(()) => Ok(()),
-        Err(e) => Err(Stop::Refused(Fault::new(Refusal::Settle(e), 0))),
-    }
+    settle(pile, target).map_err(Fault::of_no_line)?;
+    Ok(())
 }
 
 // Trims and merges the pile, looks whether its root accepts anything, and settles it.

@@ -11,7 +11,6 @@ use automata::automaton::Automaton;
 use automata::measure::Measure;
 use fields::fault::{Fault, Stop};
 use product::product::Product;
-use refusals::refusal::Refusal;
 use register::open::Open;
 use register::sealed::Sealed;
 use std::alloc::Global;
@@ -31,8 +30,6 @@ pub fn restrict_by<R: Automaton + Drop, M: Measure>(
     ensures promise { Promise M.Measure.ops }
 {
     let book = current.book();
-    if let Err(refusal) = Product::check(&book, &rule) {
-        return Err(Stop::Refused(Fault::new(Refusal::Pile(refusal), 0)));
-    }
-    narrow(heap, Product::new(book, rule), target)
+    let product = Product::checked(book, rule).map_err(Fault::of_no_line)?;
+    narrow(heap, product, target)
 }

@@ -1,5 +1,5 @@
 -- Sizes that are those of the sides leave out no row of the product.
-use Rattle.std.proofs.Common.{◌≡◌, ℕ, ◌+◌, ◌*◌, ◌/◌, ◌%◌, ◌<◌, ◌≤◌, Bool, true, false, cond, ◌&&◌, ltb, leb, ◌⊎◌, List, [], ◌∷◌, is_ok, Some, None, Ok, Err, Option, sym, refl, ap, ◌∙◌, ap₂, inl, inr, ⊎_elim, mul_comm, arith}
+use Rattle.std.proofs.Common.{◌≡◌, ℕ, ◌+◌, ◌*◌, ◌/◌, ◌%◌, ◌<◌, ◌≤◌, Bool, true, false, cond, ◌&&◌, ltb, leb, List, [], ◌∷◌, is_ok, Some, None, Ok, Err, Option, sym, refl, ap, ◌∙◌, ap₂, ⊎_elim, mul_comm, arith}
 use mathlib.Core.Path.{fun_ext}
 use Rattle.refusals.specs.declared.refusal.PileRefusal.{PileRefusal}
 use Rattle.refusals.specs.declared.refusal.PileRefusal.TheVariants.{ManyStates, ManyPlaces}

@@ -1,5 +1,6 @@
 -- The product of two automata: states, places and rows pair up, and worths multiply.
-use Rattle.std.specs.Prelude.{◌≡◌, ℕ, ◌+◌, ◌*◌, ◌/◌, ◌%◌, ◌<◌, min, Bool, cond, ◌&&◌, List, [], ◌∷◌, length, Some, None, Ok, Err, Option, Result, ◌==◌, nat_le, nat_lt}
+use Rattle.std.specs.Prelude.{◌≡◌, ℕ, ◌+◌, ◌*◌, ◌/◌, ◌%◌, ◌<◌, min, Bool, cond, ◌&&◌, List, map, length, Some, None, Ok, Err, Option, Result, ◌==◌, nat_le, nat_lt}
+use Rattle.std.specs.List.{zip}
 use Rattle.refusals.specs.declared.refusal.PileRefusal.{PileRefusal}
 use Rattle.refusals.specs.declared.refusal.PileRefusal.TheVariants.{ManyStates, ManyPlaces}
 use Rattle.refusals.specs.declared.refusal.WorthRefusal.{WorthRefusal}
@@ -16,9 +17,7 @@ abbrev pub pair : ℕ → ℕ → ℕ → ℕ
 pair n p q = p * n + q
 
 abbrev pub pairs : ℕ → List ℕ → List ℕ → List ℕ
-pairs n [] ys = []
-pairs n (x ∷ xs) [] = []
-pairs n (x ∷ xs) (y ∷ ys) = pair n x y ∷ pairs n xs ys
+pairs n xs ys = map (λ p. pair n p.0 p.1) (zip xs ys)
 
 -- two rows of one form and arity
 abbrev pub alike : Production → Production → Bool

@@ -1,15 +1,15 @@
 // The product of two automata.
-ghost use Rattle.std.specs.Prelude.{◌≡◌, ◌+◌, min, true, false, length, drop, is_ok, Some};
+ghost use Rattle.std.specs.Prelude.{◌≡◌, ◌+◌, min, true, false, length, drop, is_ok, Some, IfOk, MatchResult, Ok, Err};
 ghost use Rattle.automata.specs.Automaton.{production, shown};
 ghost use Rattle.tickets.specs.Checked.{ticket_of};
-ghost use Rattle.automata.specs.Table.{HoldsWorths, cells_needed};
+ghost use Rattle.automata.specs.Table.{FillsScratch};
 ghost use Rattle.product.specs.Product.{alike, joint, joined, row_below, product, product_checked, sized, pair_answer, ProductMultiplies};
 ghost use Rattle.product.specs.Soundness.{sized_sound};
 
 use crate::sizes::Sizes;
 use automata::automaton::Automaton;
 use automata::measure::Measure;
-use automata::row::{Row, width};
+use automata::row::Row;
 use automata::worth::worth;
 use refusals::refusal::{PileRefusal, WorthRefusal};
 use tickets::checked::CheckedTicket;
@@ -22,22 +22,16 @@ pub struct Product<A, B> {
     sizes: Sizes,
 }
 
-// The points of two rows, cut at 65,535.
-fn joint_points(first: u16, second: u16) -> u16
-    ensures { result ≡ min (first + second) 65535 }
-{
-    first.saturating_add(second)
-}
-
-// Two rows of one form and arity as one, if each pair of children is a state.
+// Two rows of one form and arity as one, its points cut at 65,535, if each pair of children is a state.
 fn joint_row(sizes: Sizes, first: Row, second: Row) -> Option<Row>
     requires { alike (production first) (production second) ≡ true }
     ensures { shown result ≡ row_below sizes.states (Some (joint sizes.width (production first) (production second))) }
 {
-    let arity = width(first);
-    let mut children = [0u16; 4];
-    for i in 0..arity {
-        let child = first.children[i] as usize * sizes.width + second.children[i] as usize;
+    let left = first.children();
+    // by position, since a pair that is no state ends it, and the places past the children stay 0
+    let mut children = [0; 4];
+    for (i, (p, q)) in left.iter().zip(second.children()).enumerate() {
+        let child = *p as usize * sizes.width + *q as usize;
         if child >= sizes.states {
             return None;
         }
@@ -45,8 +39,8 @@ fn joint_row(sizes: Sizes, first: Row, second: Row) -> Option<Row>
     }
     Some(Row {
         form: first.form,
-        points: joint_points(first.points, second.points),
-        arity: arity as u8,
+        points: first.points.saturating_add(second.points),
+        arity: left.len() as u8,
         children,
     })
 }
@@ -55,15 +49,12 @@ fn joint_row(sizes: Sizes, first: Row, second: Row) -> Option<Row>
 fn joined_row(sizes: Sizes, first: Option<Row>, second: Option<Row>) -> Option<Row>
     ensures { shown result ≡ row_below sizes.states (joined sizes.width (shown first) (shown second)) }
 {
-    match (first, second) {
-        (Some(p), Some(q)) => {
-            if p.form == q.form && width(p) == width(q) {
-                joint_row(sizes, p, q)
-            } else {
-                None
-            }
-        }
-        _ => None,
+    let first = first?;
+    let second = second?;
+    if first.form == second.form && first.children().len() == second.children().len() {
+        joint_row(sizes, first, second)
+    } else {
+        None
     }
 }
 
@@ -103,6 +94,18 @@ impl<A: Automaton, B: Automaton> Product<A, B> {
         }
     }
 
+    // The product of two automata, or why there is none.
+    pub fn checked(first: A, second: B) -> Result<Product<A, B>, PileRefusal>
+    where
+        A: Drop,
+        B: Drop,
+        ensures answers { MatchResult result (λ _. product_checked (A.Automaton.meaning first) (B.Automaton.meaning second) ≡ Ok tt) (λ e. product_checked (A.Automaton.meaning first) (B.Automaton.meaning second) ≡ Err e) }
+        ensures meaning { IfOk result (λ p. sized p.sizes (A.Automaton.meaning p.first) (B.Automaton.meaning p.second) ≡ product (A.Automaton.meaning first) (B.Automaton.meaning second)) }
+    {
+        Product::check(&first, &second)?;
+        Ok(Product::new(first, second))
+    }
+
     // The worth of a ticket from a pair of states. In a product that was made by `new` it is the product of the worths.
     // The scratch then has the worth of each subtree from each pair, and is unchanged beyond and on a refusal.
     pub fn pair_worth<M: Measure>(
@@ -113,9 +116,7 @@ impl<A: Automaton, B: Automaton> Product<A, B> {
         scratch: &mut [M],
     ) -> Result<M, WorthRefusal>
         ensures answers { result ≡ pair_answer M.Measure.ops (sized self.now.sizes (A.Automaton.meaning self.now.first) (B.Automaton.meaning self.now.second)) (A.Automaton.meaning self.now.first) (B.Automaton.meaning self.now.second) (ticket_of ticket.now) first second (length scratch.old) }
-        ensures cells { is_ok result ≡ true → HoldsWorths M.Measure.ops (sized self.now.sizes (A.Automaton.meaning self.now.first) (B.Automaton.meaning self.now.second)) (ticket_of ticket.now) scratch.new }
-        ensures beyond { is_ok result ≡ true → drop (cells_needed (sized self.now.sizes (A.Automaton.meaning self.now.first) (B.Automaton.meaning self.now.second)) (ticket_of ticket.now)) scratch.new ≡ drop (cells_needed (sized self.now.sizes (A.Automaton.meaning self.now.first) (B.Automaton.meaning self.now.second)) (ticket_of ticket.now)) scratch.old }
-        ensures same { is_ok result ≡ false → scratch.new ≡ scratch.old }
+        ensures fills { FillsScratch M.Measure.ops (sized self.now.sizes (A.Automaton.meaning self.now.first) (B.Automaton.meaning self.now.second)) (ticket_of ticket.now) result scratch.old scratch.new }
         ensures multiplies { ProductMultiplies M.Measure.ops }
     {
         let width = self.second.states();
@@ -144,16 +145,12 @@ impl<A: Automaton, B: Automaton> Automaton for Product<A, B> {
     }
 
     fn row(&self, state: usize, place: usize) -> Option<Row> {
-        let first = self
-            .first
-            .row(state / self.sizes.width, place / self.sizes.depth);
-        let second = self
-            .second
-            .row(state % self.sizes.width, place % self.sizes.depth);
-        if state < self.sizes.states && place < self.sizes.places {
-            joined_row(self.sizes, first, second)
-        } else {
-            None
+        let sizes = self.sizes;
+        if state >= sizes.states || place >= sizes.places {
+            return None;
         }
+        let first = self.first.row(state / sizes.width, place / sizes.depth);
+        let second = self.second.row(state % sizes.width, place % sizes.depth);
+        joined_row(sizes, first, second)
     }
 }

@@ -126,6 +126,7 @@ pub enum Refusal {
     Sheet(SheetRefusal),
 }
 
+// By hand: the From that a derive writes has no contract, and these say which refusal comes of which.
 impl From<RegisterRefusal> for Refusal {
     ghost from_gives = { λ e r. r ≡ Register e };
 

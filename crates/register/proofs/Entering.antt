@@ -1,16 +1,22 @@
 -- What the rows and the table hold after a form, a state or a root is entered, and when they are blank.
-use Rattle.std.proofs.Common.{◌≡◌, ℕ, ◌+◌, ◌<◌, ◌≤◌, Bool, true, false, cond, ltb, leb, List, length, take, set, replicate, is_ok, Some, None, Ok, Err, Result, sym, refl, ap, ◌∙◌, subst, arith}
-use Rattle.std.proofs.lemmas.List.{length-take, length-set, take_more_set, length-replicate, get_or-replicate}
+use Rattle.std.proofs.Common.{◌≡◌, ℕ, ◌+◌, ◌<◌, ◌≤◌, ⊎_elim, Bool, true, false, cond, ltb, leb, List, [], length, get_or, take, set, is_some, is_ok, Option, Some, None, Ok, Err, Result, sym, refl, ap, ◌∙◌, arith}
+use Rattle.std.specs.Option.{unwrap_or, ok_or}
+use Rattle.std.specs.List.{slice_get}
+use Rattle.std.specs.Array.{AllOfLen}
+use Rattle.std.proofs.lemmas.Option.{unwrap_or-slice_get}
+use Rattle.std.proofs.lemmas.List.{length-take, length-set, take_more_set, get_or-take}
 use Rattle.refusals.specs.declared.refusal.RegisterRefusal.{RegisterRefusal}
-use Rattle.refusals.specs.declared.refusal.RegisterRefusal.TheVariants.{NoState, HighArity, FullForms, FullStates, ShortList}
+use Rattle.refusals.specs.declared.refusal.RegisterRefusal.TheVariants.{NoRoot, NoState, HighArity, FullForms, FullStates, ShortList}
 use Rattle.automata.specs.declared.row.Row.{Row}
 use Rattle.ledger.specs.declared.table.Table.{Table}
-use Rattle.ledger.specs.Ledger.{blank_ledger, add_form, add_state, name_root, seal, reopen, lent_answer, seal_answer, entry_answer, entered, step, with_rows}
+use Rattle.ledger.specs.Ledger.{blank_ledger, add_form, add_state, name_root, seal, reopen, lent_answer, seal_answer, root_named, entry_answer, entered, step, with_rows, or_zero}
 use Rattle.ledger.specs.Layout.{blocks, Most, Sane, laid_out}
-use Rattle.std.proofs.lemmas.Bool.{true≢false, ltb-false}
+use Rattle.std.proofs.lemmas.Bool.{cases_lt, true≢false, ltb-false}
+use Rattle.ledger.specs.Soundness.{get_d_beyond}
+use Rattle.ledger.proofs.Taken.{found}
 use Rattle.ledger.proofs.Steps.{seal_step, reopen_step}
 use Rattle.ledger.proofs.Blocks.{blocks_push}
-use Rattle.ledger.proofs.LaidOut.{states_held, most_set}
+use Rattle.ledger.proofs.LaidOut.{states_held, used_held, unused_held, most_set}
 
 pub forms_held : (rs : List Row) (t : Table) → Sane rs t → length (take t.forms t.arities) ≡ t.forms
 forms_held rs t h = length-take t.forms t.arities ∙ omega arith
@@ -79,19 +85,46 @@ pub blank_held : (rs : List Row) (t : Table) → t.forms ≡ 0 → t.states ≡ 
 unfolding laid_out
 blank_held rs t f s r = λ i. record { arities = take (f i) t.arities; rows = blocks (take (s i) t.counts) rs; root = r i; sealed = false }
 
-zeros : (m : ℕ) → Most m (replicate 64 0)
-zeros m k h = let l : k < 64 = omega (arith, length-replicate {A = ℕ} 64 0) in omega (arith, get_or-replicate {A = ℕ} 64 k 0 0 l)
+zeros : (m : ℕ) (xs : List ℕ) → AllOfLen (λ x. x ≡ 0) xs 64 → Most m xs
+zeros m xs z k h = let e = z.at k 0 (omega (arith, z.long)) in omega arith
 
-pub blank_sane : (rs : List Row) (t : Table) → 2048 ≤ length rs → t.forms ≡ 0 → t.arities ≡ replicate 64 0 → t.states ≡ 0 → t.counts ≡ replicate 64 0 → Sane rs t
+pub blank_sane : (rs : List Row) (t : Table) → 2048 ≤ length rs → t.forms ≡ 0 → AllOfLen (λ x. x ≡ 0) t.arities 64 → t.states ≡ 0 → AllOfLen (λ x. x ≡ 0) t.counts 64 → Sane rs t
 blank_sane rs t l f a s c = record {
   long = l;
-  arities_long = ap length a ∙ length-replicate {A = ℕ} 64 0;
-  counts_long = ap length c ∙ length-replicate {A = ℕ} 64 0;
+  arities_long = a.long;
+  counts_long = c.long;
   forms = omega arith;
   states = omega arith;
-  arities = subst (Most 4) (sym a) (zeros 4);
-  counts = subst (Most 32) (sym c) (zeros 32);
+  arities = zeros 4 t.arities a;
+  counts = zeros 32 t.counts c;
 }
+
+-- the root as a library's option reads it
+pub or_zero_is : (r : Option ℕ) → unwrap_or r 0 ≡ or_zero r
+or_zero_is None = refl
+or_zero_is (Some s) = refl
+
+pub named : (r : Option ℕ) (m : Option (Unit {0})) → is_some m ≡ is_some r → ok_or m NoRoot ≡ root_named r
+named None None e = refl
+named None (Some u) e = absurd (true≢false e)
+named (Some s) None e = absurd (true≢false (sym e))
+named (Some s) (Some u) e = refl
+
+-- how many rows a state has, none where it is not entered
+pub rows_counted : (rs : List Row) (t : Table) (s : ℕ) → Sane rs t → unwrap_or (slice_get (take t.states t.counts) s) 0 ≡ length (get_or (blocks (take t.states t.counts) rs) s [])
+rows_counted rs t s h =
+    unwrap_or-slice_get (take t.states t.counts) s 0
+    ∙ ⊎_elim
+    (λ l. get_or-take t.states t.counts s 0 l ∙ sym (used_held rs t s h l))
+    (λ l. get_d_beyond (take t.states t.counts) s 0 (omega (arith, length-take t.states t.counts)) ∙ sym (unused_held rs t s h l))
+    (cases_lt s t.states)
+
+-- where a state is entered, its number of rows and what bounds the places of its rows
+pub used_found : (rs : List Row) (t : Table) (s u : ℕ) → Sane rs t → slice_get (take t.states t.counts) s ≡ Some u → (s < t.states) × (get_or t.counts s 0 ≡ u) × (u ≤ 32) × (t.states ≤ 64) × (2048 ≤ length rs)
+used_found rs t s u h e =
+    let f = found t.states t.counts s u e in
+    let low = h.counts s (omega (arith, h.states, h.counts_long)) in
+    (f.0, f.1, omega arith, h.states, h.long)
 
 short_refused : (b : Bool) (r : Result (Unit {0}) RegisterRefusal) → is_ok (cond b (Err ShortList) r) ≡ true → b ≡ false
 short_refused true r h = absurd (true≢false (sym h))

@@ -44,7 +44,7 @@ impl<'a> Open<'a> {
         Ok(number)
     }
 
-    // Appends a row to the state's list, and returns its place.
+    // Appends a row to the state's list, and returns its place. By a rule of the project its parts are given one by one.
     pub fn row(
         &mut self,
         state: usize,

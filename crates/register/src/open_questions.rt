@@ -11,8 +11,7 @@ impl<'a> Open<'a> {
     pub fn forms(&self) -> Forms<'_>
         ensures { arities_of result ≡ (held self.now).arities }
     {
-        let arities = &self.table.arities[..self.table.forms];
-        Forms::new(arities)
+        self.table.form_list()
     }
 
     // How many states are entered.

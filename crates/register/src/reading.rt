@@ -1,7 +1,7 @@
 // The book over a sealed register as an automaton, and worth read through it.
-ghost use Rattle.std.specs.Prelude.{◌≡◌, true, false, length, drop, is_ok};
+ghost use Rattle.std.specs.Prelude.{◌≡◌, length};
 ghost use Rattle.tickets.specs.Checked.{ticket_of};
-ghost use Rattle.automata.specs.Table.{HoldsWorths, cells_needed, worth_answer};
+ghost use Rattle.automata.specs.Table.{FillsScratch, worth_answer};
 ghost use Rattle.ledger.specs.Ledger.{book as book_over};
 ghost use Rattle.register.specs.Held.{held_sealed, book_meaning};
 ghost use Rattle.register.specs.Soundness.{book_sound};
@@ -30,18 +30,15 @@ impl<'a> Automaton for Book<'a> {
     }
 
     fn root(&self) -> usize {
-        match self.table.root {
-            None => 0,
-            Some(state) => state,
-        }
+        self.table.root.unwrap_or(0)
     }
 
     fn row(&self, state: usize, place: usize) -> Option<Row> {
-        if state < self.table.states && place < self.table.counts[state] as usize {
-            Some(self.rows[state * 32 + place])
-        } else {
-            None
+        let used = self.table.used(state)?;
+        if place >= used as usize {
+            return None;
         }
+        Some(self.rows[state * 32 + place])
     }
 }
 
@@ -65,9 +62,7 @@ impl<'a> Sealed<'a> {
         scratch: &mut [M],
     ) -> Result<M, WorthRefusal>
         ensures answers { result ≡ worth_answer M.Measure.ops (book_over (held_sealed self.now)) (ticket_of ticket.now) start (length scratch.old) }
-        ensures cells { is_ok result ≡ true → HoldsWorths M.Measure.ops (book_over (held_sealed self.now)) (ticket_of ticket.now) scratch.new }
-        ensures beyond { is_ok result ≡ true → drop (cells_needed (book_over (held_sealed self.now)) (ticket_of ticket.now)) scratch.new ≡ drop (cells_needed (book_over (held_sealed self.now)) (ticket_of ticket.now)) scratch.old }
-        ensures same { is_ok result ≡ false → scratch.new ≡ scratch.old }
+        ensures fills { FillsScratch M.Measure.ops (book_over (held_sealed self.now)) (ticket_of ticket.now) result scratch.old scratch.new }
         ensures value { AnswersStanding M.Measure.ops (held_sealed self.now) (ticket_of ticket.now) start result }
         ensures sums { SumsStanding M.Measure.ops (held_sealed self.now) }
         ensures stands { HoldsStanding (held_sealed self.now) }

@@ -12,8 +12,7 @@ impl<'a> Sealed<'a> {
     pub fn forms(&self) -> Forms<'_>
         ensures { arities_of result ≡ (held_sealed self.now).arities }
     {
-        let arities = &self.table.arities[..self.table.forms];
-        Forms::new(arities)
+        self.table.form_list()
     }
 
     // How many states are entered.
@@ -27,20 +26,13 @@ impl<'a> Sealed<'a> {
     pub fn rows_of(&self, state: usize) -> usize
         ensures { result ≡ length (rows_at (held_sealed self.now) state) }
     {
-        if state < self.table.states {
-            self.table.counts[state] as usize
-        } else {
-            0
-        }
+        self.table.used(state).unwrap_or(0) as usize
     }
 
     // The root.
     pub fn root(&self) -> usize
         ensures { result ≡ or_zero (held_sealed self.now).root }
     {
-        match self.table.root {
-            None => 0,
-            Some(state) => state,
-        }
+        self.table.root.unwrap_or(0)
     }
 }

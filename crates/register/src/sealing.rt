@@ -1,5 +1,5 @@
 // Making a register, sealing and reopening it.
-ghost use Rattle.std.specs.Prelude.{◌≡◌, true, false, [], length, replicate, is_ok, None};
+ghost use Rattle.std.specs.Prelude.{◌≡◌, true, false, [], length, is_ok};
 ghost use Rattle.ledger.specs.Ledger.{ledger, lent_answer, seal_answer, seal as sealing_call, reopen as reopening_call, step, Follows};
 ghost use Rattle.register.specs.Held.{held, held_sealed, lent, lent_sealed};
 
@@ -9,22 +9,7 @@ use automata::row::Row;
 use ledger::table::Table;
 use refusals::refusal::RegisterRefusal;
 
-fn empty_table() -> Table
-    ensures forms { result.forms ≡ 0 }
-    ensures arities { result.arities ≡ replicate 64 0 }
-    ensures states { result.states ≡ 0 }
-    ensures counts { result.counts ≡ replicate 64 0 }
-    ensures root { result.root ≡ None }
-{
-    Table {
-        forms: 0,
-        arities: [0; 64],
-        states: 0,
-        counts: [0; 64],
-        root: None,
-    }
-}
-
+// By a rule of the project blank and seal are each a check that moves nothing and may refuse, and a making that cannot.
 impl<'a> Open<'a> {
     // Whether a list of rows is long enough to lend.
     pub fn check(rows: &[Row]) -> Result<(), RegisterRefusal>
@@ -42,8 +27,10 @@ impl<'a> Open<'a> {
         ensures value { held result ≡ ledger [] }
         ensures same { lent result ≡ rows.old }
     {
-        let table = empty_table();
-        Open { rows, table }
+        Open {
+            rows,
+            table: Table::default(),
+        }
     }
 
     // Whether the register can be sealed. A refusal here is a seal refused, which the history has and which changes nothing.
@@ -51,10 +38,7 @@ impl<'a> Open<'a> {
         ensures answers { result ≡ seal_answer (held self.now) }
         ensures history { is_ok result ≡ false → Follows (held self.now) sealing_call (held self.now) }
     {
-        match self.table.root {
-            None => Err(RegisterRefusal::NoRoot),
-            Some(_) => Ok(()),
-        }
+        self.table.root.map(|_| ()).ok_or(RegisterRefusal::NoRoot)
     }
 
     // Seals a register that passes the check.

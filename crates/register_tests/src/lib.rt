@@ -13,16 +13,9 @@ mod tests {
     use std::test::Fail;
     use tickets::checked::CheckedTicket;
 
-    const EMPTY: Row = Row {
-        form: 0,
-        points: 0,
-        arity: 0,
-        children: [0; 4],
-    };
-
     #[test]
     fn points_limit(rt: HostRuntime) -> Result<(), Fail> {
-        let mut rows = [EMPTY; 2048];
+        let mut rows = [Row::default(); 2048];
         Open::check(&rows)?;
         let mut open = Open::blank(&mut rows);
         let form = open.form(0)?;
@@ -37,7 +30,7 @@ mod tests {
 
     #[test]
     fn rows_limit(rt: HostRuntime) -> Result<(), Fail> {
-        let mut rows = [EMPTY; 2048];
+        let mut rows = [Row::default(); 2048];
         Open::check(&rows)?;
         let mut open = Open::blank(&mut rows);
         let form = open.form(0)?;
@@ -54,7 +47,7 @@ mod tests {
 
     #[test]
     fn forms_and_states_limit(rt: HostRuntime) -> Result<(), Fail> {
-        let mut rows = [EMPTY; 2048];
+        let mut rows = [Row::default(); 2048];
         Open::check(&rows)?;
         let mut open = Open::blank(&mut rows);
         for number in 0..64 {
@@ -71,7 +64,7 @@ mod tests {
 
     #[test]
     fn refusals_alter_nothing(rt: HostRuntime) -> Result<(), Fail> {
-        let mut rows = [EMPTY; 2048];
+        let mut rows = [Row::default(); 2048];
         assert_eq!(rt; Open::check(&rows[..2047]), Err(RegisterRefusal::ShortList));
         Open::check(&rows)?;
         let mut open = Open::blank(&mut rows);
@@ -117,13 +110,13 @@ mod tests {
         let forms = sealed.forms();
         CheckedTicket::check(&forms, &nodes)?;
         let ticket = CheckedTicket::new(forms, &nodes);
-        let mut scratch = [ReadingCount::nothing(); 64];
+        let mut scratch = [ReadingCount::NONE; 64];
         Ok(sealed.worth(&ticket, 0, &mut scratch)?.count())
     }
 
     #[test]
     fn struck_sealed_and_reopened(rt: HostRuntime) -> Result<(), Fail> {
-        let mut rows = [EMPTY; 2048];
+        let mut rows = [Row::default(); 2048];
         Open::check(&rows)?;
         let mut open = Open::blank(&mut rows);
         let leaf = open.form(0)?;

@@ -1,5 +1,5 @@
 -- Rules one after the other: each has one outcome, and so has the chain.
-use Rattle.std.proofs.Common.{◌≡◌, ℕ, ◌+◌, ◌<◌, ◌≤◌, Bool, true, false, cond, leb, List, [], ◌∷◌, ◌++◌, map, length, get_or, drop, is_ok, Ok, Err, vec_items, Result, Vec, sym, refl, ap, ◌∙◌, subst, ap₂, append_assoc, append-nil, arith}
+use Rattle.std.proofs.Common.{◌≡◌, ℕ, ◌+◌, ◌<◌, ◌≤◌, Bool, true, false, cond, leb, List, [], ◌∷◌, ◌++◌, map, length, is_ok, Ok, Err, vec_items, Result, Vec, sym, refl, ap, ◌∙◌, subst, ap₂, append_assoc, append-nil, arith}
 use Rattle.std.specs.declared.alloc.Global.{Global}
 use Rattle.std.proofs.lemmas.List.{length-append}
 use Rattle.std.proofs.lemmas.Bool.{true≢false, and_parts, leb-true, le-ltb, lt-leb}
@@ -11,7 +11,7 @@ use Rattle.automata.specs.Automaton.{Meaning, Sound}
 use Rattle.rules.specs.Ladder.{ladder, ladder_checked, ladder_has, ladder_to}
 use Rattle.rules.specs.Bar.{bar, bar_checked, bar_has, bar_to}
 use Rattle.rules.specs.Soundness.{ruled_sound, ladder_parts, bar_to_below}
-use Rattle.ledger.specs.Ledger.{Ledger, add_form, settle, seal, settle_answer, seal_answer, entered, entry_step, enter_all, step, book, blank_ledger, lent_answer}
+use Rattle.ledger.specs.Ledger.{Ledger, add_form, settle, seal, settle_answer, seal_answer, entered, entry_step, enter_all, step, book, blank_ledger}
 use Rattle.ledger.specs.Layout.{Good}
 use Rattle.ledger.specs.Soundness.{good_sound}
 use Rattle.product.specs.Product.{product, product_checked}
@@ -29,13 +29,17 @@ use Rattle.ledger.proofs.Steps.{step_ok}
 use Rattle.history.proofs.SettledWorth.{settle_done}
 use Rattle.restrictions.specs.declared.rule.Rule.{Rule}
 use Rattle.restrictions.specs.declared.rule.Rule.TheVariants.{Whole, Levels, Bars}
-use Rattle.restrictions.specs.Chain.{highest, at_pile, multiplied, pile_of, rules_of, formed, Next, Continued, Chain}
+use Rattle.restrictions.specs.Chain.{at_pile, multiplied, pile_of, rules_of, formed, Next, Continued, Chain}
 use Rattle.restrictions.specs.Steps.{Stepped}
-use Rattle.sheet.specs.Entered.{Entered, Barred, nothing_entered}
-use Rattle.sheet.specs.Lines.{sheet_entered}
-use Rattle.entries.specs.AtLine.{at_register}
-use Rattle.restrictions.specs.declared.house.House.{House}
-use Rattle.restrictions.specs.House.{Lists, Only, Returns, Restricted, Answered, Told, house_read}
+use Rattle.register.specs.Held.{held_sealed}
+use Rattle.sheet.specs.Entered.{Entered, Barred}
+use Rattle.sheet.specs.Held.{lists, barred}
+use Rattle.verdicts.specs.Verdicts.{Stops}
+use Rattle.reports.specs.declared.house.House.{House}
+use Rattle.reports.specs.declared.grammar.Grammar.{Grammar}
+use Rattle.reports.specs.Levels.{highest}
+use Rattle.reports.specs.Grammar.{house_read, noted, Reads}
+use Rattle.restrictions.specs.House.{Lists, Only, Returns, Restricted, Answered, Told}
 
 ok_same : {X Y : Type 0} (x y : X) → ◌≡◌ {A = Result X Y} (Ok x) (Ok y) → x ≡ y
 ok_same x y e = cc
@@ -169,10 +173,6 @@ listed_only P a (Ok v) only e = subst (Only P) e only
 listed_only P a (Err (Refused f)) only e = subst (Only P) e only
 listed_only P a (Err Memory) only e = tt
 
-head_rest : {X : Type 0} (d : X) (xs : List X) → 0 < length xs → xs ≡ get_or xs 0 d ∷ drop 1 xs
-head_rest d [] l = absurd (omega arith)
-head_rest d (x ∷ xs) l = refl
-
 no_rest : {X : Type 0} (xs : List X) → length xs ≡ 0 → xs ≡ []
 no_rest [] l = refl
 no_rest (x ∷ xs) l = absurd (omega arith)
@@ -184,17 +184,17 @@ module _ (levels levels' : List ℕ) (names tickets : List (List ℕ)) (l : Ledg
       subst (λ xs. Returns (Only (Lists levels l xs names tickets)) r) (sym (no_rest rules e))
       (listed_only (Lists levels l [] names tickets) (listing_answer names l tickets) r (chain_done levels names tickets l) (subst (λ a. Answers a r) (ap₂ (λ n t. listing_answer n l t) en et) h))
 
-  module _ (g : Good l) (sealed : l.sealed ≡ true) (d : Rule) (some : 0 < length rules) (el : levels' ≡ levels) (was is : Ledger) (w : was ≡ formed l.arities) where
-    pub first_stops : (e : Stop) (r : Result (Vec ℕ Global) Stop) → r ≡ Err e → Stepped (pile_of levels' l (get_or rules 0 d)) was (Err e) is → Returns (Only (Lists levels l rules names tickets)) r
+  module _ (g : Good l) (sealed : l.sealed ≡ true) (rule : Rule) (rest : List Rule) (parts : rules ≡ rule ∷ rest) (el : levels' ≡ levels) (was is : Ledger) (w : was ≡ formed l.arities) where
+    pub first_stops : (e : Stop) (r : Result (Vec ℕ Global) Stop) → r ≡ Err e → Stepped (pile_of levels' l rule) was (Err e) is → Returns (Only (Lists levels l rules names tickets)) r
     first_stops e r q h =
         subst (λ z. Returns (Only (Lists levels l rules names tickets)) z) (sym q)
-        (subst (λ xs. Returns (Only (Lists levels l xs names tickets)) (Err e)) (sym (head_rest d rules some))
-        (rule_stops levels names tickets l g sealed (get_or rules 0 d) (drop 1 rules) e was is w (subst (λ z. Stepped (pile_of z l (get_or rules 0 d)) was (Err e) is) el h)))
+        (subst (λ xs. Returns (Only (Lists levels l xs names tickets)) (Err e)) (sym parts)
+        (rule_stops levels names tickets l g sealed rule rest e was is w (subst (λ z. Stepped (pile_of z l rule) was (Err e) is) el h)))
 
-    pub first_goes_on : (n : Narrowed) (next : Ledger) (r : Result (Vec ℕ Global) Stop) → Stepped (pile_of levels' l (get_or rules 0 d)) was (Ok n) is → next ≡ step is seal → Returns (Only (Lists levels next (drop 1 rules) names tickets)) r → Returns (Only (Lists levels l rules names tickets)) r
+    pub first_goes_on : (n : Narrowed) (next : Ledger) (r : Result (Vec ℕ Global) Stop) → Stepped (pile_of levels' l rule) was (Ok n) is → next ≡ step is seal → Returns (Only (Lists levels next rest names tickets)) r → Returns (Only (Lists levels l rules names tickets)) r
     first_goes_on n next r h e x =
-        subst (λ xs. Returns (Only (Lists levels l xs names tickets)) r) (sym (head_rest d rules some))
-        (rule_goes_on levels names tickets l g sealed (get_or rules 0 d) (drop 1 rules) n was is next w (subst (λ z. Stepped (pile_of z l (get_or rules 0 d)) was (Ok n) is) el h) e r x)
+        subst (λ xs. Returns (Only (Lists levels l xs names tickets)) r) (sym parts)
+        (rule_goes_on levels names tickets l g sealed rule rest n was is next w (subst (λ z. Stepped (pile_of z l rule) was (Ok n) is) el h) e r x)
 
 -- a step that goes on can be sealed
 pub steps_seal : (pile : Result Meaning Fault) (l : Ledger) (n : Narrowed) (was is : Ledger) → was ≡ formed l.arities → ((m : Meaning) → pile ≡ Ok m → Sound m) → Stepped pile was (Ok n) is → is_ok (seal_answer is) ≡ true
@@ -207,24 +207,25 @@ steps_seal (Err f) l n was is w sound h = absurd (let z : ◌≡◌ {A = ℕ} 0 
 
 -- the same with a report beside the listing
 pub restricted_stops : (levels : List ℕ) (l : Ledger) (bars : List Barred) (names tickets : List (List ℕ)) (rules : List Rule) (e : Stop) (r : Result House Stop) → rules ≡ rules_of levels bars → r ≡ Err e → Returns (Only (Lists levels l rules names tickets)) (Err e) → Restricted levels l bars names tickets r
-restricted_stops levels l bars names tickets rules e r er q h = subst (Restricted levels l bars names tickets) (sym q) (go e (subst (λ z. Returns (Only (Lists levels l z names tickets)) (Err e)) er h))
-  where
-    go : (e : Stop) → Returns (Only (Lists levels l (rules_of levels bars) names tickets)) (Err e) → Restricted levels l bars names tickets (Err e)
-    go (Refused f) x = x
-    go Memory x = tt
+restricted_stops levels l bars names tickets rules e r er q h = subst (Restricted levels l bars names tickets) (sym q) (subst (λ z. Returns (Only (Lists levels l z names tickets)) (Err e)) er h)
 
 -- the answer to a sheet that is read
-pub read_told : (n : ℕ) (sheet : List ℕ) (e : Entered) (r : Result House Stop) → house_read n sheet ≡ Ok e → Restricted e.levels (step e.ledger seal) e.bars e.forms e.tickets r → Told n sheet r
+read_told : (n : ℕ) (sheet : List ℕ) (e : Entered) (r : Result House Stop) → house_read n sheet ≡ Ok e → Restricted e.levels (step e.ledger seal) e.bars e.forms e.tickets r → Told n sheet r
 read_told n sheet e (Ok h) q x = subst (λ z. Only (Answered z) (Ok (vec_items h.listing))) (sym q) x
 read_told n sheet e (Err (Refused f)) q x = subst (λ z. Only (Answered z) (Err f)) (sym q) x
 read_told n sheet e (Err Memory) q x = tt
 
 -- the answer to a sheet that is refused
-pub refused_told : (n : ℕ) (sheet : List ℕ) (f : Fault) → house_read n sheet ≡ Err f → Told n sheet (Err (Refused f))
+refused_told : (n : ℕ) (sheet : List ℕ) (f : Fault) → house_read n sheet ≡ Err f → Told n sheet (Err (Refused f))
 refused_told n sheet f q = subst (λ z. Only (Answered z) (Err f)) (sym q) (refl, λ b h. h)
 
-pub read_ok : (n : ℕ) (sheet : List ℕ) (e₀ e : Entered) → Ok tt ≡ lent_answer n → e₀ ≡ nothing_entered → sheet_entered e₀ sheet ≡ Ok e → Ok tt ≡ seal_answer e.ledger → house_read n sheet ≡ Ok e
-read_ok n sheet e₀ e lent blank reads seals =
-    ap (λ r. bind (at_register 0 r) (λ _. bind (sheet_entered nothing_entered sheet) (λ e. bind (at_register 0 (seal_answer e.ledger)) (λ _. Ok e)))) (sym lent)
-    ∙ ap (λ r. bind r (λ e. bind (at_register 0 (seal_answer e.ledger)) (λ _. Ok e))) (ap (λ z. sheet_entered z sheet) (sym blank) ∙ reads)
-    ∙ ap (λ r. bind (at_register 0 r) (λ _. Ok e)) (sym seals)
+pub not_read_told : (n : ℕ) (sheet : List ℕ) (e : Stop) → Stops (house_read n sheet) e → Told n sheet (Err e)
+not_read_told n sheet (Refused f) h = refused_told n sheet f h
+not_read_told n sheet Memory h = tt
+
+-- the answer from the grammar that was read
+pub grammar_told : (n : ℕ) (sheet : List ℕ) (g : Grammar) (r : Result House Stop) → Reads (house_read n sheet) (Ok g)
+    → Restricted (vec_items g.notes.levels) (held_sealed g.sealed) (map barred (vec_items g.notes.bars)) (lists g.notes.forms) (lists g.notes.tickets) r → Told n sheet r
+grammar_told n sheet g r h x =
+    read_told n sheet (noted g.notes h.0) r h.1
+    (subst (λ l. Restricted (vec_items g.notes.levels) l (map barred (vec_items g.notes.bars)) (lists g.notes.forms) (lists g.notes.tickets) r) h.2 x)

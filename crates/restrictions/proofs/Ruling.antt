@@ -1,25 +1,14 @@
--- The highest level, the forms of a register entered into another, and the rules in order.
-use Rattle.std.proofs.Common.{◌≡◌, ℕ, ◌+◌, ◌<◌, ◌≤◌, max, cond, eqb, List, [], ◌∷◌, ◌++◌, map, length, get_or, take, drop, sym, refl, ap, ◌∙◌, append_assoc, arith}
-use Rattle.std.proofs.lemmas.List.{drop_more, drop_all, take_all, map_more}
+-- The forms of a register entered into another, and the rules in order.
+use Rattle.std.proofs.Common.{◌≡◌, ℕ, ◌+◌, ◌<◌, ◌≤◌, cond, eqb, List, [], ◌∷◌, ◌++◌, map, length, get_or, take, sym, refl, ap, ◌∙◌, append_assoc, arith}
+use Rattle.std.proofs.lemmas.List.{take_all, map_more}
 use Rattle.ledger.specs.Ledger.{Ledger, add_form, entry_step, enter_all}
 use Rattle.history.proofs.Settled.{enter_append}
-use Rattle.sheet.specs.declared.notes.BarEntry.{BarEntry}
+use Rattle.rules.specs.declared.bar.Nesting.{Nesting}
 use Rattle.sheet.specs.Held.{barred}
 use Rattle.restrictions.specs.declared.rule.Rule.{Rule}
 use Rattle.restrictions.specs.declared.rule.Rule.TheVariants.{Whole, Levels, Bars}
-use Rattle.restrictions.specs.Chain.{highest, bar_entry, rules_of, or_whole}
-
-max_more : (c x r : ℕ) → max (max c x) r ≡ max c (max x r)
-max_more c x r = omega arith
-
-pub highest_more : (levels : List ℕ) (i c c' : ℕ) → i < length levels → max c (highest (drop i levels)) ≡ highest levels → c' ≡ max c (get_or levels i 0) → max c' (highest (drop (i + 1) levels)) ≡ highest levels
-highest_more levels i c c' l h e =
-    ap (λ z. max z (highest (drop (i + 1) levels))) e
-    ∙ max_more c (get_or levels i 0) (highest (drop (i + 1) levels))
-    ∙ ap (λ xs. max c (highest xs)) (sym (drop_more levels i 0 l)) ∙ h
-
-pub highest_end : (levels : List ℕ) (i c : ℕ) → length levels ≤ i → max c (highest (drop i levels)) ≡ highest levels → c ≡ highest levels
-highest_end levels i c l h = omega (arith, ap highest (drop_all i levels l))
+use Rattle.restrictions.specs.Chain.{bar_entry, rules_of, or_whole}
+use Rattle.reports.specs.Levels.{highest}
 
 -- one more form
 pub forms_more : (l k k' : Ledger) (arities : List ℕ) (i : ℕ) → i < length arities → k ≡ enter_all l (map add_form (take i arities)) → k' ≡ entry_step k (add_form (get_or arities i 0)) → k' ≡ enter_all l (map add_form (take (i + 1) arities))
@@ -35,15 +24,15 @@ forms_end l k arities i le h = h ∙ ap (λ xs. enter_all l (map add_form xs)) (
 abbrev pub first : List ℕ → List Rule
 first levels = cond (eqb (highest levels) 0) [] (Levels ∷ [])
 
-bars_same : (bs : List BarEntry) → map (λ b. Bars (bar_entry b)) (map barred bs) ≡ map Bars bs
+bars_same : (bs : List Nesting) → map (λ b. Bars (bar_entry b)) (map barred bs) ≡ map Bars bs
 bars_same [] = refl
 bars_same (b ∷ bs) = ap (λ xs. Bars b ∷ xs) (bars_same bs)
 
-pub bars_more : (levels : List ℕ) (bs : List BarEntry) (i : ℕ) (d : BarEntry) (xs xs' : List Rule) → i < length bs → xs ≡ first levels ++ map Bars (take i bs) → xs' ≡ xs ++ Bars (get_or bs i d) ∷ [] → xs' ≡ first levels ++ map Bars (take (i + 1) bs)
+pub bars_more : (levels : List ℕ) (bs : List Nesting) (i : ℕ) (d : Nesting) (xs xs' : List Rule) → i < length bs → xs ≡ first levels ++ map Bars (take i bs) → xs' ≡ xs ++ Bars (get_or bs i d) ∷ [] → xs' ≡ first levels ++ map Bars (take (i + 1) bs)
 bars_more levels bs i d xs xs' l h e =
     e ∙ ap (λ z. z ++ Bars (get_or bs i d) ∷ []) h ∙ append_assoc (first levels) (map Bars (take i bs)) (Bars (get_or bs i d) ∷ []) ∙ ap (λ z. first levels ++ z) (sym (map_more Bars bs i d l))
 
-all_bars : (levels : List ℕ) (bs : List BarEntry) (i : ℕ) (xs : List Rule) → length bs ≤ i → xs ≡ first levels ++ map Bars (take i bs) → or_whole xs ≡ rules_of levels (map barred bs)
+all_bars : (levels : List ℕ) (bs : List Nesting) (i : ℕ) (xs : List Rule) → length bs ≤ i → xs ≡ first levels ++ map Bars (take i bs) → or_whole xs ≡ rules_of levels (map barred bs)
 all_bars levels bs i xs l h = ap or_whole (h ∙ ap (λ z. first levels ++ map Bars z) (take_all i bs l) ∙ ap (λ z. first levels ++ z) (sym (bars_same bs)))
 
 some_rules : (xs : List Rule) → 0 < length xs → or_whole xs ≡ xs
@@ -54,7 +43,7 @@ no_rules : (xs : List Rule) → length xs ≡ 0 → xs ≡ []
 no_rules [] l = refl
 no_rules (x ∷ xs) l = absurd (omega arith)
 
-module _ (levels : List ℕ) (bs : List BarEntry) (i : ℕ) (xs : List Rule) (l : length bs ≤ i) (h : xs ≡ first levels ++ map Bars (take i bs)) where
+module _ (levels : List ℕ) (bs : List Nesting) (i : ℕ) (xs : List Rule) (l : length bs ≤ i) (h : xs ≡ first levels ++ map Bars (take i bs)) where
   pub rules_some : 0 < length xs → xs ≡ rules_of levels (map barred bs)
   rules_some n = sym (some_rules xs n) ∙ all_bars levels bs i xs l h
 

@@ -1,5 +1,5 @@
 -- The restrictions of a sheet one after the other: each multiplies the current book, and what trim and merge leave of it is settled into the next register.
-use Rattle.std.specs.Prelude.{◌≡◌, ℕ, max, false, cond, List, [], ◌∷◌, ◌++◌, map, None, Ok, Err, Result, ◌==◌}
+use Rattle.std.specs.Prelude.{◌≡◌, ℕ, false, cond, List, [], ◌∷◌, ◌++◌, map, None, Ok, Err, Result, ◌==◌}
 use Rattle.refusals.specs.declared.refusal.Refusal.TheVariants.{Pile}
 use Rattle.refusals.specs.declared.refusal.PileRefusal.{PileRefusal}
 use Rattle.automata.specs.Automaton.{Meaning}
@@ -9,19 +9,15 @@ use Rattle.ledger.specs.Ledger.{Ledger, settle, seal, settle_answer, step, book}
 use Rattle.product.specs.Product.{product, product_checked}
 use Rattle.fields.specs.declared.fault.Fault.{Fault}
 use Rattle.fields.specs.Fault.{of_refusal, bind}
-use Rattle.sheet.specs.declared.notes.BarEntry.{BarEntry}
+use Rattle.rules.specs.declared.bar.Nesting.{Nesting}
 use Rattle.sheet.specs.Entered.{Barred}
+use Rattle.reports.specs.Levels.{highest}
 use Rattle.narrowing.specs.Reduced.{Reduced}
 use Rattle.narrowing.specs.Narrows.{at_settle}
 use Rattle.restrictions.specs.declared.rule.Rule.{Rule}
 use Rattle.restrictions.specs.declared.rule.Rule.TheVariants.{Whole, Levels, Bars}
 
--- the highest level; 0 where there is none
-abbrev pub highest : List ℕ → ℕ
-highest [] = 0
-highest (n ∷ ns) = max n (highest ns)
-
-abbrev pub bar_entry : Barred → BarEntry
+abbrev pub bar_entry : Barred → Nesting
 bar_entry b = record { outer = b.outer; position = b.position; inner = b.inner }
 
 -- the ladder where some level is above 0, then each bar; with neither, the whole grammar as it is

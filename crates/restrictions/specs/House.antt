@@ -1,29 +1,22 @@
 -- What a sheet answers: the listing of the grammar that its restrictions leave, or its fault.
 use Rattle.std.specs.Prelude.{◌≡◌, ℕ, List, Ok, Err, vec_items, Result, Vec}
 use Rattle.std.specs.declared.alloc.Global.{Global}
-use Rattle.ledger.specs.Ledger.{Ledger, lent_answer, seal_answer, seal, step}
+use Rattle.ledger.specs.Ledger.{Ledger, seal, step}
 use Rattle.fields.specs.declared.fault.Fault.{Fault}
 use Rattle.fields.specs.declared.fault.Stop.{Stop}
 use Rattle.fields.specs.declared.fault.Stop.TheVariants.{Refused, Memory}
 use Rattle.fields.specs.Fault.{bind}
-use Rattle.sheet.specs.Entered.{Entered, Barred, nothing_entered}
-use Rattle.entries.specs.AtLine.{at_register}
-use Rattle.sheet.specs.Lines.{sheet_entered}
+use Rattle.sheet.specs.Entered.{Entered, Barred}
 use Rattle.listing.specs.Listing.{listing_answer}
-use Rattle.restrictions.specs.declared.house.House.{House}
+use Rattle.reports.specs.declared.house.House.{House}
+use Rattle.reports.specs.House.{listing_in}
+use Rattle.reports.specs.Grammar.{house_read}
 use Rattle.restrictions.specs.declared.rule.Rule.{Rule}
 use Rattle.restrictions.specs.Chain.{rules_of, Chain}
 
 -- the rules in order, and the listing of the last book, or the first refusal
 abbrev pub Lists : List ℕ → Ledger → List Rule → List (List ℕ) → List (List ℕ) → Result (List ℕ) Fault → Type 0
 Lists levels l rules names tickets a = (x : Result Ledger Fault) × Chain levels l rules x × (a ≡ bind x (λ k. listing_answer names k tickets))
-
--- a list of n rows is lent and the sheet is read, and then it is sealed, at line 0
-abbrev pub house_read : ℕ → List ℕ → Result Entered Fault
-house_read n sheet =
-    bind (at_register 0 (lent_answer n)) (λ _.
-    bind (sheet_entered nothing_entered sheet) (λ e.
-    bind (at_register 0 (seal_answer e.ledger)) (λ _. Ok e)))
 
 -- what is entered is restricted and listed
 abbrev pub Answered : Result Entered Fault → Result (List ℕ) Fault → Type 0
@@ -46,12 +39,8 @@ Returns P (Err Memory) = Unit {0}
 
 -- the same of a call that returns the listing with a report
 abbrev pub Restricted : List ℕ → Ledger → List Barred → List (List ℕ) → List (List ℕ) → Result House Stop → Type 0
-Restricted levels l bars names tickets (Ok h) = Only (Lists levels l (rules_of levels bars) names tickets) (Ok (vec_items h.listing))
-Restricted levels l bars names tickets (Err (Refused f)) = Only (Lists levels l (rules_of levels bars) names tickets) (Err f)
-Restricted levels l bars names tickets (Err Memory) = Unit {0}
+Restricted levels l bars names tickets r = Returns (Only (Lists levels l (rules_of levels bars) names tickets)) (listing_in r)
 
 -- the call returns the only answer to the sheet, or stops for want of memory
 abbrev pub Told : ℕ → List ℕ → Result House Stop → Type 0
-Told n sheet (Ok h) = Only (AnswersSheet n sheet) (Ok (vec_items h.listing))
-Told n sheet (Err (Refused f)) = Only (AnswersSheet n sheet) (Err f)
-Told n sheet (Err Memory) = Unit {0}
+Told n sheet r = Returns (Only (AnswersSheet n sheet)) (listing_in r)

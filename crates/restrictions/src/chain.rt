@@ -15,30 +15,25 @@ use register::sealed::Sealed;
 use sheet::notes::Notes;
 use std::alloc::Global;
 
-// Restricts the current book by each rule, and lists the last. What each made of it stands in `steps` then.
+// Restricts the current book by each rule, and lists the last. Each rule with what it made of the book stands in `steps`
+// then. It calls itself, since each book borrows the rows of its own register.
 pub(crate) fn onward(
     heap: Global,
     current: &Sealed<'_>,
     rules: &[Rule],
     notes: &Notes,
-    steps: &mut Vec<Narrowed>,
+    steps: &mut Vec<(Rule, Narrowed)>,
 ) -> Result<Vec<u8>, Stop>
     ensures { Returns (Only (Lists notes.now.levels.items (held_sealed current.now) rules.now (lists notes.now.forms) (lists notes.now.tickets))) result }
 {
-    if rules.is_empty() {
+    let Some((rule, rest)) = rules.split_first() else {
         return listing(heap, &notes.forms, current, &notes.tickets);
-    }
-    let empty = Row {
-        form: 0,
-        points: 0,
-        arity: 0,
-        children: [0; 4],
     };
-    let mut rows = vec![in heap; empty; 2048]?;
+    let mut rows = vec![in heap; Row::default(); 2048]?;
     let mut target = Open::blank(&mut rows);
     enter_forms(&current.forms(), &mut target);
-    let narrowed = by_rule(heap, current, &notes.levels, rules[0], &mut target)?;
-    steps.push(narrowed)?;
+    let narrowed = by_rule(heap, current, &notes.levels, *rule, &mut target)?;
+    steps.push((*rule, narrowed))?;
     let next = target.seal();
-    onward(heap, &next, &rules[1..], notes, steps)
+    onward(heap, &next, rest, notes, steps)
 }

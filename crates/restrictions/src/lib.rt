@@ -4,7 +4,6 @@
 
 pub mod answer;
 mod chain;
-pub mod house;
 mod report;
 pub mod rule;
 mod rule_steps;

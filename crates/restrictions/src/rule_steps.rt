@@ -1,13 +1,10 @@
 // The restrictions of a sheet in order, and the step that each makes.
 ghost use Rattle.std.specs.Prelude.{◌≡◌, map, IfOk};
 ghost use Rattle.tickets.specs.Checked.{arities_of};
-ghost use Rattle.refusals.specs.declared.refusal.Refusal.TheVariants.{Pile as OfPile};
-ghost use Rattle.fields.specs.declared.fault.Stop.TheVariants.{Refused as IsRefused};
-ghost use Rattle.fields.specs.Fault.{of_refusal};
 ghost use Rattle.ledger.specs.Ledger.{add_form, enter_all};
 ghost use Rattle.register.specs.Held.{held, held_sealed};
 ghost use Rattle.sheet.specs.Held.{barred};
-ghost use Rattle.restrictions.specs.Chain.{highest, rules_of, pile_of};
+ghost use Rattle.restrictions.specs.Chain.{rules_of, pile_of};
 ghost use Rattle.restrictions.specs.Steps.{Stepped};
 
 use crate::rule::Rule;
@@ -16,31 +13,19 @@ use fields::fault::{Fault, Stop};
 use narrowing::narrow::narrow;
 use narrowing::narrowed::Narrowed;
 use narrowing::restrict::restrict_by;
-use refusals::refusal::{PileRefusal, Refusal};
 use register::open::Open;
 use register::sealed::Sealed;
-use rules::bar::Bar;
+use reports::levels::highest_level;
+use rules::bar::{Bar, Nesting};
 use rules::ladder::Ladder;
-use sheet::notes::BarEntry;
 use std::alloc::{AllocError, Global};
 use tickets::forms::Forms;
-
-// The highest level; 0 where there is none.
-fn highest_level(levels: &[u16]) -> usize
-    ensures { result ≡ highest levels.now }
-{
-    let mut count: usize = 0;
-    for level in levels {
-        count = count.max(*level as usize);
-    }
-    count
-}
 
 // The ladder if there is a level above 0, then each bar; with neither, the whole grammar.
 pub(crate) fn rules_in_order(
     heap: Global,
     levels: &[u16],
-    bars: &[BarEntry],
+    bars: &[Nesting],
 ) -> Result<Vec<Rule>, AllocError>
     ensures { IfOk result (λ v. v.items ≡ rules_of levels.now (map barred bars.now)) }
 {
@@ -48,6 +33,7 @@ pub(crate) fn rules_in_order(
     if highest_level(levels) > 0 {
         rules.push(Rule::Levels)?;
     }
+    // a loop: with `extend` over a map, no search found what the list holds after it
     for bar in bars {
         rules.push(Rule::Bars(*bar))?;
     }
@@ -57,62 +43,13 @@ pub(crate) fn rules_in_order(
     Ok(rules)
 }
 
-// Enters the forms of a list.
+// Enters the forms of a list; none is refused by a blank register, which has room for as many.
 pub(crate) fn enter_forms(forms: &Forms<'_>, target: &mut Open<'_>)
     ensures { held target.new ≡ enter_all (held target.old) (map add_form (arities_of forms.now)) }
 {
-    for form in 0..forms.count() {
-        if let Some(arity) = forms.arity(form) {
-            let _ = target.form(arity as u16);
-        }
+    for arity in forms.arities {
+        let _ = target.form(*arity as u16);
     }
-}
-
-// A refusal of a pile that is of no line.
-fn refused_pile(refusal: PileRefusal) -> Stop
-    ensures { result ≡ IsRefused (of_refusal (OfPile refusal) 0) }
-{
-    Stop::Refused(Fault::new(Refusal::Pile(refusal), 0))
-}
-
-// Restricts by the ladder of the levels.
-fn by_levels(
-    heap: Global,
-    current: &Sealed<'_>,
-    levels: &[u16],
-    target: &mut Open<'_>,
-) -> Result<Narrowed, Stop>
-    ensures { Stepped (pile_of levels.now (held_sealed current.now) Rule.Levels) (held target.old) result (held target.new) }
-{
-    let forms = current.forms();
-    let count = highest_level(levels);
-    if let Err(refusal) = Ladder::check(&forms, count, levels) {
-        return Err(refused_pile(refusal));
-    }
-    restrict_by::<Ladder<'_, '_>, YesNo>(heap, current, Ladder::new(forms, count, levels), target)
-}
-
-// Restricts by a bar.
-fn by_bar(
-    heap: Global,
-    current: &Sealed<'_>,
-    levels: &[u16],
-    bar: BarEntry,
-    target: &mut Open<'_>,
-) -> Result<Narrowed, Stop>
-    ensures { Stepped (pile_of levels.now (held_sealed current.now) (Rule.Bars bar)) (held target.old) result (held target.new) }
-{
-    let forms = current.forms();
-    let position = bar.position as usize;
-    if let Err(refusal) = Bar::check(&forms, bar.outer, position, bar.inner) {
-        return Err(refused_pile(refusal));
-    }
-    restrict_by::<Bar<'_>, YesNo>(
-        heap,
-        current,
-        Bar::new(forms, bar.outer, position, bar.inner),
-        target,
-    )
 }
 
 // Settles what a rule leaves of the current book into the target.
@@ -125,9 +62,17 @@ pub(crate) fn by_rule(
 ) -> Result<Narrowed, Stop>
     ensures { Stepped (pile_of levels.now (held_sealed current.now) rule) (held target.old) result (held target.new) }
 {
+    let forms = current.forms();
     match rule {
         Rule::Whole => narrow(heap, current.book(), target),
-        Rule::Levels => by_levels(heap, current, levels, target),
-        Rule::Bars(bar) => by_bar(heap, current, levels, bar, target),
+        Rule::Levels => {
+            let highest = highest_level(levels);
+            let ladder = Ladder::checked(forms, highest, levels).map_err(Fault::of_no_line)?;
+            restrict_by::<Ladder<'_, '_>, YesNo>(heap, current, ladder, target)
+        }
+        Rule::Bars(nesting) => {
+            let bar = Bar::checked(forms, nesting).map_err(Fault::of_no_line)?;
+            restrict_by::<Bar<'_>, YesNo>(heap, current, bar, target)
+        }
     }
 }

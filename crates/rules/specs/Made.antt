@@ -10,4 +10,4 @@ abbrev pub ladder_of : Ladder → Meaning
 ladder_of l = ladder (arities_of l.forms) l.count l.levels.now
 
 abbrev pub bar_of : Bar → Meaning
-bar_of b = bar (arities_of b.forms) b.outer b.position b.inner
+bar_of b = bar (arities_of b.forms) b.nesting.outer b.nesting.position b.nesting.inner

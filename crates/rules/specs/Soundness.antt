@@ -98,4 +98,4 @@ bar_to_below outer position f i = go (f == outer && i == position)
 pub bar_sound : (b : Bar) → Sound (bar_of b)
 bar_sound b =
     let few = forms_few b.forms in
-    ruled_sound (arities_of b.forms) 2 (bar_has b.inner) (bar_to b.outer b.position) (omega arith) (omega arith) (omega arith) (bar_to_below b.outer b.position)
+    ruled_sound (arities_of b.forms) 2 (bar_has b.nesting.inner) (bar_to b.nesting.outer b.nesting.position) (omega arith) (omega arith) (omega arith) (bar_to_below b.nesting.outer b.nesting.position)

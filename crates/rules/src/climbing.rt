@@ -1,7 +1,6 @@
 // Making a ladder, and asking it.
-ghost use Rattle.std.specs.Prelude.{◌≡◌, true, is_ok};
+ghost use Rattle.std.specs.Prelude.{◌≡◌, true, is_ok, IfOk, MatchResult, Ok, Err};
 ghost use Rattle.tickets.specs.Checked.{arities_of};
-ghost use Rattle.tickets.specs.Forms.{each_at_most};
 ghost use Rattle.rules.specs.Ladder.{ladder, ladder_checked, LadderExact};
 ghost use Rattle.rules.specs.Made.{ladder_of};
 ghost use Rattle.rules.specs.Soundness.{ladder_sound};
@@ -11,18 +10,6 @@ use automata::automaton::Automaton;
 use automata::row::Row;
 use refusals::refusal::PileRefusal;
 use tickets::forms::Forms;
-
-// Whether no level is above the most.
-fn all_at_most(most: usize, levels: &[u16]) -> bool
-    ensures { result ≡ each_at_most most levels.now }
-{
-    for level in levels {
-        if *level as usize > most {
-            return false;
-        }
-    }
-    true
-}
 
 impl<'f, 'l> Ladder<'f, 'l> {
     // Whether a ladder can be made of so many levels and a level for each form, or why not.
@@ -35,7 +22,7 @@ impl<'f, 'l> Ladder<'f, 'l> {
         if levels.len() != forms.count() {
             return Err(PileRefusal::LevelCount);
         }
-        if !all_at_most(count, levels) {
+        if !levels.iter().all(|level| *level as usize <= count) {
             return Err(PileRefusal::HighLevel);
         }
         Ok(())
@@ -53,6 +40,19 @@ impl<'f, 'l> Ladder<'f, 'l> {
             count,
             levels,
         }
+    }
+
+    // The ladder, or why there is none.
+    pub fn checked(
+        forms: Forms<'f>,
+        count: usize,
+        levels: &'l [u16],
+    ) -> Result<Ladder<'f, 'l>, PileRefusal>
+        ensures answers { MatchResult result (λ _. ladder_checked (arities_of forms.entry) count levels.now ≡ Ok tt) (λ e. ladder_checked (arities_of forms.entry) count levels.now ≡ Err e) }
+        ensures meaning { IfOk result (λ l. ladder_of l ≡ ladder (arities_of forms.entry) count levels.now) }
+    {
+        Ladder::check(&forms, count, levels)?;
+        Ok(Ladder::new(forms, count, levels))
     }
 }
 
@@ -87,7 +87,7 @@ impl<'f, 'l> Automaton for Ladder<'f, 'l> {
             form: place as u16,
             points: 0,
             arity,
-            children: [child, child, child, child],
+            children: [child; 4],
         })
     }
 }

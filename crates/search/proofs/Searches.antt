@@ -1,22 +1,24 @@
 -- What a search lists, and what its answer tells.
-use Rattle.std.proofs.Common.{◌≡◌, ℕ, zero, suc, ◌+◌, ◌<◌, ◌≤◌, Bool, true, false, cond, ◌⊎◌, List, [], ◌∷◌, ◌++◌, length, take, set, replicate, Some, Ok, Err, sym, refl, ap, ◌∙◌, subst, ap₂, inl, inr, ⊎_elim, arith, below_more}
+use Rattle.std.proofs.Common.{◌≡◌, ℕ, zero, suc, ◌+◌, ◌<◌, ◌≤◌, Bool, true, false, cond, ◌⊎◌, ◌≢◌, List, [], ◌∷◌, ◌++◌, length, take, drop, Some, None, Option, Ok, Err, sym, refl, ap, ◌∙◌, subst, ap₂, inl, inr, ⊎_elim, arith, below_more}
 use Rattle.std.specs.List.{AllByRecursion}
+use Rattle.std.specs.Option.{MatchOption}
 use Rattle.std.proofs.ByRecursion.{All-weaker}
-use Rattle.std.proofs.lemmas.List.{take_more_set, length-set, map_push, get_or-replicate, get_or_past, length-replicate}
-use Rattle.std.proofs.lemmas.Bool.{both_ways, cases_eq, cases_lt, lt-ltb, le-ltb, true≢false}
-use Rattle.automata.specs.Automaton.{Meaning, Production, Sound}
+use Rattle.std.proofs.Math.Seq.{take-append_seam, drop-append_seam}
+use Rattle.std.proofs.lemmas.List.{length_push, map_push}
+use Rattle.std.proofs.lemmas.Bool.{both_ways, cases_eq, lt-ltb, le-ltb, true≢false}
+use Rattle.automata.specs.declared.row.Row.{Row}
+use Rattle.automata.specs.Automaton.{Meaning, Production, production, shown, Sound}
 use Rattle.automata.specs.Reading.{Member}
 use Rattle.automata.proofs.Members.{member_cases, member_left, member_right}
 use Rattle.automata.proofs.Sampled.{yes_accepts}
 use Rattle.search.specs.declared.line.Line.{Line}
-use Rattle.layers.specs.Marks.{mark, each_marked, marked, Ready, Unready}
+use Rattle.layers.specs.Marks.{each_marked, Ready, Unready, Stuck}
 use Rattle.search.specs.Search.{Lines, Found, Tells, Leaf, search_checked}
 use Rattle.refusals.specs.declared.refusal.SearchRefusal.TheVariants.{Start, Lines as FewLines}
-use Rattle.layers.specs.Marks.{Stuck}
 use Rattle.search.specs.Searched.{SearchTells}
 use Rattle.search.specs.Sweep.{line_states, Listed}
 use Rattle.layers.specs.Trim.{Productive}
-use Rattle.layers.proofs.Marking.{all_from_marked, mark_here, mark_other, marked_lt, marked_more}
+use Rattle.layers.proofs.Marking.{all_from_marked, marked_none, marked_lt, marked_more}
 use Rattle.layers.proofs.Productives.{usable_productive, place_below, stuck_productive}
 
 -- a further line, whose children stand on the lines before and whose state does not
@@ -57,82 +59,114 @@ module _ (m : Meaning) (sm : Sound m) where
   stuck_tells start f stuck e =
       (λ _ t y. both_ways (f start) e (stuck_productive m sm f stuck start (t, (yes_accepts m start t).0 y)), λ _. refl)
 
-module _ (m : Meaning) (start : ℕ) (marks : List Bool) (ls : List Line) (n : ℕ) (h : Listed m start marks ls n) where
-  abbrev L : List Line
-  L = take n ls
+module _ (m : Meaning) (start : ℕ) (marks : ℕ → Bool) (ls : List Line) (h : Listed m start marks ls) where
+  children_stand : (p : Production) → each_marked marks p.children ≡ true → AllByRecursion (λ c. Member c [] ⊎ Member c (line_states ls)) p.children
+  children_stand p all = all_from_marked (λ c. Member c [] ⊎ Member c (line_states ls)) marks (λ s e. inr ((h.marks_lines s).0 e)) p.children all
 
-  children_stand : (p : Production) → each_marked (mark marks) p.children ≡ true → AllByRecursion (λ c. Member c [] ⊎ Member c (line_states L)) p.children
-  children_stand p all = all_from_marked (λ c. Member c [] ⊎ Member c (line_states L)) (mark marks) (λ s e. inr ((h.marks_lines s).0 e)) p.children all
+  pub push_lines : (l : Line) → marks l.state ≡ false → Ready m marks l.state l.place → Lines m [] (ls ++ l ∷ [])
+  push_lines l un r = lines_push m [] ls l r.0 h.good r.1 (children_stand r.0 r.2) absurd (λ b. both_ways (marks l.state) un ((h.marks_lines l.state).1 b))
 
-  pub push_lines : (s k : ℕ) (l : Line) → n < length ls → l.state ≡ s → l.place ≡ k → mark marks s ≡ false → Ready m (mark marks) s k → Lines m [] (take (n + 1) (set ls n l))
-  push_lines s k l ln es ek un r =
-      subst (Lines m []) (sym (take_more_set ls n l ln))
-      (lines_push m [] L l r.0 h.good (ap₂ (λ x y. m.row x y) es ek ∙ r.1) (children_stand r.0 r.2) absurd (λ b. both_ways (mark marks s) un ((h.marks_lines s).1 (subst (λ x. Member x (line_states L)) es b))))
+  pub found_start : (l : Line) → l.state ≡ start → Ready m marks start l.place → Found m start (ls ++ l ∷ [])
+  found_start l es r = record { lines = push_lines l (ap marks es ∙ h.open_start) (subst (λ s. Ready m marks s l.place) (sym es) r); ends = (ls, l, refl, es) }
 
-  pub found_start : (k : ℕ) (l : Line) → n < length ls → l.state ≡ start → l.place ≡ k → Ready m (mark marks) start k → Found m start (take (n + 1) (set ls n l))
-  found_start k l ln es ek r = record { lines = push_lines start k l ln es ek h.open_start r; ends = (L, l, take_more_set ls n l ln, es) }
-
-  pub listed_more : (s k : ℕ) (l : Line) → m.states ≤ 1024 → s < m.states → (s ≡ start → ⊥) → l.state ≡ s → l.place ≡ k → mark marks s ≡ false → Ready m (mark marks) s k → Listed m start (set marks s true) (set ls n l) (n + 1)
-  listed_more s k l few ls' ne es ek un r =
-      let lm : s < length marks = omega (arith, h.long_marks) in
-      let ln : n < length ls = omega (arith, h.long_lines, h.counted, marked_lt (mark marks) m.states s ls' un) in
-      let now : line_states (take (n + 1) (set ls n l)) ≡ line_states L ++ l.state ∷ [] = ap line_states (take_more_set ls n l ln) ∙ map_push (λ x. x.state) L l in
+  pub listed_more : (l : Line) (marks' : ℕ → Bool) → l.state < m.states → l.state ≢ start → marks l.state ≡ false → Ready m marks l.state l.place
+      → marks' l.state ≡ true → ((t : ℕ) → t ≢ l.state → marks' t ≡ marks t) → Listed m start marks' (ls ++ l ∷ [])
+  listed_more l marks' lt ne un r here others =
+      let now : line_states (ls ++ l ∷ []) ≡ line_states ls ++ l.state ∷ [] = map_push (λ x. x.state) ls l in
       record {
-        long_marks = length-set marks s true ∙ h.long_marks;
-        long_lines = length-set ls n l ∙ h.long_lines;
-        good = push_lines s k l ln es ek un r;
+        good = push_lines l un r;
         marks_lines = λ t. (
-          λ e. subst (Member t) (sym now) (⊎_elim (λ (i : t ≡ s). member_right t (line_states L) (l.state ∷ []) (inl (i ∙ sym es)))
-              (λ other. member_left t (line_states L) (l.state ∷ []) ((h.marks_lines t).0 (sym (mark_other marks s t other) ∙ e))) (cases_eq t s)),
-          λ b. ⊎_elim (λ (i : t ≡ s). ap (mark (set marks s true)) i ∙ mark_here marks s lm)
-              (λ other. mark_other marks s t other ∙ ⊎_elim (h.marks_lines t).1 (λ x. ⊎_elim (λ (j : t ≡ l.state). absurd (other (j ∙ es))) absurd x) (member_cases t (line_states L) (l.state ∷ []) (subst (Member t) now b))) (cases_eq t s),
+          λ e. subst (Member t) (sym now) (⊎_elim (λ (i : t ≡ l.state). member_right t (line_states ls) (l.state ∷ []) (inl i))
+              (λ other. member_left t (line_states ls) (l.state ∷ []) ((h.marks_lines t).0 (sym (others t other) ∙ e))) (cases_eq t l.state)),
+          λ b. ⊎_elim (λ (i : t ≡ l.state). ap marks' i ∙ here)
+              (λ other. others t other ∙ ⊎_elim (h.marks_lines t).1 (λ x. ⊎_elim (λ (j : t ≡ l.state). absurd (other j)) absurd x) (member_cases t (line_states ls) (l.state ∷ []) (subst (Member t) now b))) (cases_eq t l.state),
         );
-        counted = ap (λ x. x + 1) h.counted ∙ sym (marked_more marks m.states s (omega (arith, h.long_marks)) ls' un);
-        open_start = mark_other marks s start (λ i. ne (sym i)) ∙ h.open_start;
+        counted = length_push ls l ∙ ap (λ x. x + 1) h.counted ∙ sym (marked_more marks marks' l.state un here others m.states lt);
+        open_start = others start (λ i. ne (sym i)) ∙ h.open_start;
       }
+
+  -- there is room for one more line
+  pub room : Sound m → (s : ℕ) → s < m.states → marks s ≡ false → length ls < m.states
+  room sm s l un = subst (λ n. n < m.states) (sym h.counted) (marked_lt marks m.states s l un)
+
+-- what is known of a row that was asked for and tried
+abbrev pub Tried : Meaning → (ℕ → Bool) → ℕ → ℕ → Bool → Type 0
+Tried m f s k b = (r : Option Row) × (shown r ≡ m.row s k) × MatchOption r (b ≡ false) (λ x. b ≡ each_marked f (production x).children)
+
+pub tried_ready : (m : Meaning) (f : ℕ → Bool) (s k : ℕ) → Tried m f s k true → Ready m f s k
+tried_ready m f s k (None, e, t) = absurd (true≢false t)
+tried_ready m f s k (Some x, e, t) = (production x, sym e, sym t)
+
+pub tried_unready : (m : Meaning) (f : ℕ → Bool) (s k : ℕ) → Tried m f s k false → (p : Production) → m.row s k ≡ Some p → each_marked f p.children ≡ false
+tried_unready m f s k (None, e, t) p i = absurd (let z : ◌≡◌ {A = ℕ} 0 1 = cc in omega arith)
+tried_unready m f s k (Some x, e, t) p i = let same : production x ≡ p = cc in subst (λ (z : Production). each_marked f z.children ≡ false) same (sym t)
+
+-- what a search for a place of a ready row found
+pub ready_among : (m : Meaning) → Sound m → (f : ℕ → Bool) (s n : ℕ) (r : Option ℕ) (P Q R : ℕ → Type 0) → n ≡ m.places
+    → MatchOption r ((k : ℕ) → 0 ≤ k → k < n → (p : Production) → m.row s k ≡ Some p → each_marked f p.children ≡ false) (λ i. P i × Q i × Ready m f s i × R i) → MatchOption r (Unready m f s) (Ready m f s)
+ready_among m sm f s n None P Q R e h = λ k p i. h k (omega arith) (omega (arith, e, place_below m sm s k p i)) p i
+ready_among m sm f s n (Some k) P Q R e h = h.2
+
+-- there is room for the last line too
+pub room_for_all : (m : Meaning) → Sound m → (start : ℕ) (f : ℕ → Bool) (ls : List Line) → Listed m start f ls → (s l n : ℕ) → s ≡ m.states → start < s → s ≤ l → n ≡ length ls + 1 → n ≤ l
+room_for_all m sm start f ls h s l n e below le long = let r = room m start f ls h sm start (omega arith) h.open_start in omega (arith, r)
 
 -- a row without children is always ready
 pub leaf_ready : (m : Meaning) (f : ℕ → Bool) (s : ℕ) → Unready m f s → Leaf m s → ⊥
 leaf_ready m f s un leaf = true≢false (sym (ap (each_marked f) leaf.3) ∙ un leaf.0 leaf.1 leaf.2)
 
 -- between the states of a sweep that began with count lines
-abbrev pub Swept : Meaning → ℕ → ℕ → List Bool → List Line → ℕ → ℕ → Type 0
-Swept m start count marks ls n s = Listed m start marks ls n × (count ≤ n) × (n ≡ count → Stuck m (mark marks) s × Unready m (mark marks) start)
+pub record Swept (m : Meaning) (start count : ℕ) (marks : ℕ → Bool) (ls : List Line) (s : ℕ) : Type 0 where
+  pub listed : Listed m start marks ls
+  pub more : count ≤ length ls
+  pub stuck : length ls ≡ count → Stuck m marks s
+  pub unready : length ls ≡ count → Unready m marks start
 
-stuck_more : (m : Meaning) (f : ℕ → Bool) (s : ℕ) → Stuck m f s → (f s ≡ true) ⊎ Unready m f s → Stuck m f (s + 1)
-stuck_more m f s h here = below_more (λ t. (f t ≡ true) ⊎ Unready m f t) s h here
+pub swept_none : (m : Meaning) (start : ℕ) (marks : ℕ → Bool) (ls : List Line) → Listed m start marks ls → Unready m marks start → Swept m start (length ls) marks ls 0
+swept_none m start marks ls h un = record { listed = h; more = omega arith; stuck = λ _ t l. absurd (omega arith); unready = λ _. un }
 
-module _ (m : Meaning) (start count : ℕ) (marks marks' : List Bool) (ls ls' : List Line) (n n' s : ℕ) (h : Swept m start count marks ls n s) where
-  pub swept_same : marks' ≡ marks → ls' ≡ ls → n' ≡ n → (mark marks s ≡ true) ⊎ ((s ≡ start) ⊎ Unready m (mark marks) s) → Swept m start count marks' ls' n' (s + 1)
-  swept_same em el en here =
-      subst (λ x. Swept m start count x ls' n' (s + 1)) (sym em) (subst (λ x. Swept m start count marks x n' (s + 1)) (sym el) (subst (λ x. Swept m start count marks ls x (s + 1)) (sym en)
-      (h.0, h.1, λ e. let k = h.2 e in (stuck_more m (mark marks) s k.0 (⊎_elim inl (λ o. inr (⊎_elim (λ (i : s ≡ start). subst (Unready m (mark marks)) (sym i) k.1) (λ u. u) o)) here), k.1))))
+module _ (m : Meaning) (start count : ℕ) (marks : ℕ → Bool) (ls : List Line) (s : ℕ) (h : Swept m start count marks ls s) where
+  pub swept_same : (marks s ≡ true) ⊎ ((s ≡ start) ⊎ Unready m marks s) → Swept m start count marks ls (s + 1)
+  swept_same here = record {
+    listed = h.listed;
+    more = h.more;
+    stuck = λ e. below_more (λ t. (marks t ≡ true) ⊎ Unready m marks t) s (h.stuck e) (⊎_elim inl (λ o. inr (⊎_elim (λ (i : s ≡ start). subst (Unready m marks) (sym i) (h.unready e)) (λ u. u) o)) here);
+    unready = h.unready;
+  }
 
-  pub swept_more : (k : ℕ) (l : Line) → m.states ≤ 1024 → s < m.states → (s ≡ start → ⊥) → l.state ≡ s → l.place ≡ k → mark marks s ≡ false → Ready m (mark marks) s k → marks' ≡ set marks s true → ls' ≡ set ls n l → n' ≡ n + 1
-      → Swept m start count marks' ls' n' (s + 1)
-  swept_more k l few lt ne es ek un r em el en =
-      subst (λ x. Swept m start count x ls' n' (s + 1)) (sym em) (subst (λ x. Swept m start count (set marks s true) x n' (s + 1)) (sym el) (subst (λ x. Swept m start count (set marks s true) (set ls n l) x (s + 1)) (sym en)
-      (listed_more m start marks ls n h.0 s k l few lt ne es ek un r, omega (arith, h.1), λ e. absurd (omega (arith, h.1)))))
+  pub swept_more : (l : Line) (marks' : ℕ → Bool) → l.state < m.states → l.state ≢ start → marks l.state ≡ false → Ready m marks l.state l.place
+      → marks' l.state ≡ true → ((t : ℕ) → t ≢ l.state → marks' t ≡ marks t) → Swept m start count marks' (ls ++ l ∷ []) (s + 1)
+  swept_more l marks' lt ne un r here others =
+      let longer : count < length (ls ++ l ∷ []) = grown (length ls) (length (ls ++ l ∷ [])) h.more (length_push ls l) in
+      record {
+        listed = listed_more m start marks ls h.listed l marks' lt ne un r here others;
+        more = longer_le longer;
+        stuck = λ e. absurd (never e longer);
+        unready = λ e. absurd (never e longer);
+      }
+    where
+      grown : (n k : ℕ) → count ≤ n → k ≡ n + 1 → count < k
+      grown n k a b = omega arith
 
-none_marked : (f : ℕ → Bool) → ((s : ℕ) → f s ≡ false) → (n : ℕ) → marked f n ≡ 0
-none_marked f e zero = refl
-none_marked f e (suc n) = ap₂ (λ x b. x + cond b 1 0) (none_marked f e n) (e n)
+      longer_le : {k : ℕ} → count < k → count ≤ k
+      longer_le a = omega arith
 
-pub listed_none : (m : Meaning) (start : ℕ) (l : Line) → Listed m start (replicate 1024 false) (replicate 1024 l) 0
-listed_none m start l =
-    let clear : (s : ℕ) → mark (replicate 1024 false) s ≡ false = λ s. ⊎_elim (λ lt. get_or-replicate 1024 s false false lt) (λ le. get_or_past (replicate 1024 false) s false (omega (arith, length-replicate 1024 false))) (cases_lt s 1024) in
-    record {
-      long_marks = length-replicate 1024 false;
-      long_lines = length-replicate 1024 l;
-      good = tt;
-      marks_lines = λ s. (λ e. absurd (both_ways (mark (replicate 1024 false) s) (clear s) e), λ b. absurd b);
-      counted = sym (none_marked (mark (replicate 1024 false)) clear m.states);
-      open_start = clear start;
-    }
+      never : {k : ℕ} → k ≡ count → count < k → ⊥
+      never a b = omega arith
 
--- there is always room for one more line
-pub count_below : (m : Meaning) → Sound m → (start : ℕ) (marks : List Bool) (ls : List Line) (n : ℕ) → Listed m start marks ls n → start < m.states → (n < m.states) × (m.states ≤ 1024)
-count_below m sm start marks ls n h l = (omega (arith, h.counted, marked_lt (mark marks) m.states start l h.open_start), sm.few_states)
+pub listed_none : (m : Meaning) (start : ℕ) (marks : ℕ → Bool) → ((s : ℕ) → marks s ≡ false) → Listed m start marks []
+listed_none m start marks clear = record {
+  good = tt;
+  marks_lines = λ s. (λ e. absurd (both_ways (marks s) (clear s) e), λ b. absurd b);
+  counted = sym (marked_none marks clear m.states);
+  open_start = clear start;
+}
+
+-- a list written over the front of another
+pub written : {X : Type 0} (n : ℕ) (xs ys zs : List X) → xs ≡ zs → n ≡ length zs → (take n (xs ++ drop n ys) ≡ zs) × (drop n (xs ++ drop n ys) ≡ drop n ys)
+written n xs ys zs e k =
+    let l : n ≡ length xs = k ∙ ap length (sym e) in
+    (ap (λ j. take j (xs ++ drop n ys)) l ∙ take-append_seam xs (drop n ys) ∙ e, ap (λ j. drop j (xs ++ drop n ys)) l ∙ drop-append_seam xs (drop n ys))
 
 pub checked_ok : (m : Meaning) (start room : ℕ) → start < m.states → m.states ≤ room → search_checked m start room ≡ Ok tt
 checked_ok m start room l r = ap₂ (λ x y. cond x (cond y (Err FewLines) (Ok tt)) (Err Start)) (lt-ltb start m.states l) (le-ltb room m.states r)

@@ -1,71 +1,55 @@
 // Searching for a ticket that a state accepts.
 ghost use Rattle.std.specs.Prelude.{◌≡◌, ℕ, ◌<◌, ◌≤◌, true, false, length, take, drop, is_ok, IfOk, Ok, Err, MatchOption, MatchResult};
-ghost use Rattle.layers.specs.Marks.{mark, Ready, Unready};
+ghost use Rattle.arrayvec.specs.ArrayVec.{array_vec_len};
+ghost use Rattle.layers.specs.Marks.{mark, Ready, Unready, Stuck};
 ghost use Rattle.search.specs.Search.{search_checked, Found, Tells, Leaf};
 ghost use Rattle.search.specs.Searched.{Searched};
-ghost use Rattle.layers.specs.Marks.{Stuck};
 ghost use Rattle.search.specs.Sweep.{Listed};
 
 use crate::line::Line;
+use arrayvec::ArrayVec;
 use automata::automaton::Automaton;
-use layers::rows::all_marked;
+use layers::marks::Marks;
 use refusals::refusal::SearchRefusal;
 
 // The place of a row of the state whose children are all marked, if there is one.
-fn ready<A: Automaton>(automaton: &A, marks: &[bool], state: usize) -> Option<usize>
-    requires { (A.Automaton.meaning automaton.now).states ≤ length marks.now }
+fn ready<A: Automaton>(automaton: &A, marks: &Marks, state: usize) -> Option<usize>
     ensures { MatchOption result (Unready (A.Automaton.meaning automaton.now) (mark marks.now) state) (λ k. Ready (A.Automaton.meaning automaton.now) (mark marks.now) state k) }
 {
-    for place in 0..automaton.places() {
-        if let Some(row) = automaton.row(state, place) {
-            if all_marked(marks, row) {
-                return Some(place);
-            }
-        }
-    }
-    None
+    (0..automaton.places()).find(|place| {
+        automaton
+            .row(state, *place)
+            .is_some_and(|row| marks.has_children(row))
+    })
 }
 
-// Lists each state but the start that has a row whose children are listed, and tells how many are listed then.
+// Lists each state but the start that has a row whose children are listed, and tells whether there was one.
 fn sweep<A: Automaton>(
     automaton: &A,
     start: usize,
-    marks: &mut [bool],
-    lines: &mut [Line],
-    count: usize,
-) -> usize
-    requires listed { Listed (A.Automaton.meaning automaton.now) start marks.old lines.old count }
+    marks: &mut Marks,
+    order: &mut ArrayVec<Line, 1024>,
+) -> bool
+    requires listed { Listed (A.Automaton.meaning automaton.now) start (mark marks.old) order.old.items }
     requires unready { Unready (A.Automaton.meaning automaton.now) (mark marks.old) start }
-    ensures listed { Listed (A.Automaton.meaning automaton.now) start marks.new lines.new result }
-    ensures more { count ≤ result }
-    ensures stuck { result ≡ count → Stuck (A.Automaton.meaning automaton.now) (mark marks.new) (A.Automaton.meaning automaton.now).states }
+    ensures listed { Listed (A.Automaton.meaning automaton.now) start (mark marks.new) order.new.items }
+    ensures more { result ≡ true → array_vec_len order.old < array_vec_len order.new }
+    ensures stuck { result ≡ false → Stuck (A.Automaton.meaning automaton.now) (mark marks.new) (A.Automaton.meaning automaton.now).states }
 {
-    let mut listed = count;
+    let before = order.len();
+    // over the states' numbers: a state is marked while the later ones are looked at
     for state in 0..automaton.states() {
-        if state != start && !marks[state] {
+        if state != start && !marks.has(state) {
             if let Some(place) = ready(automaton, marks, state) {
-                marks[state] = true;
-                lines[listed] = Line {
+                marks.add(state);
+                order.push(Line {
                     state: state as u16,
                     place,
-                };
-                listed += 1;
+                });
             }
         }
     }
-    listed
-}
-
-// Writes the first lines of one list over those of another.
-fn copy_front(from: &[Line], to: &mut [Line], count: usize)
-    requires from { count ≤ length from.now }
-    requires to { count ≤ length to.old }
-    ensures front { take count to.new ≡ take count from.now }
-    ensures beyond { drop count to.new ≡ drop count to.old }
-{
-    for i in 0..count {
-        to[i] = from[i];
-    }
+    order.len() > before
 }
 
 // Lines that build up a ticket that the start accepts, each from earlier ones, and how many they are; zero where it
@@ -90,22 +74,20 @@ pub fn search<A: Automaton>(
     if lines.len() < states {
         return Err(SearchRefusal::Lines);
     }
-    let mut marks = [false; 1024];
-    let mut order = [Line { state: 0, place: 0 }; 1024];
-    let mut count = 0;
+    let mut marks = Marks::none();
+    let mut order = ArrayVec::<Line, 1024>::new();
     loop {
         if let Some(place) = ready(automaton, &marks, start) {
-            order[count] = Line {
+            order.push(Line {
                 state: start as u16,
                 place,
-            };
-            copy_front(&order, lines, count + 1);
-            return Ok(count + 1);
+            });
+            let count = order.len();
+            lines[..count].copy_from_slice(order.as_slice());
+            return Ok(count);
         }
-        let listed = sweep(automaton, start, &mut marks, &mut order, count);
-        if listed == count {
+        if !sweep(automaton, start, &mut marks, &mut order) {
             return Ok(0);
         }
-        count = listed;
     }
 }

@@ -1,8 +1,14 @@
 -- Flagged numbers with one more, and what holds of every one of them.
-use Rattle.std.proofs.Common.{◌≡◌, ℕ, ◌+◌, ◌≤◌, Bool, true, false, ◌&&◌, List, [], ◌∷◌, ◌++◌, map, length, sym, refl, ap, ◌∙◌, append_assoc, append-nil, add-one, arith}
+use Rattle.std.proofs.Common.{◌≡◌, ℕ, zero, suc, ◌+◌, ◌≤◌, Bool, true, false, cond, ◌&&◌, List, [], ◌∷◌, ◌++◌, map, length, sym, refl, ap, ◌∙◌, append_assoc, append-nil, add-one, arith}
+use mathlib.Core.Path.{fun_ext}
+use mathlib.Core.List.{map-id}
+use Rattle.std.specs.List.{filter, list_all, range_with_len}
 use Rattle.std.proofs.lemmas.List.{length-append}
+use Rattle.std.proofs.lemmas.List.Elements.{filter-append}
+use Rattle.std.proofs.lemmas.List.FromFn.{map-range_with_len_more}
+use Rattle.automata.specs.Automaton.{Meaning}
 use Rattle.automata.specs.Reading.{concat}
-use Rattle.ledger.specs.Reach.{listed}
+use Rattle.ledger.specs.Reach.{listed, reached}
 use Rattle.ledger.specs.Ledger.{every}
 use Rattle.history.proofs.Listed.{listed_yes, listed_no}
 
@@ -23,25 +29,23 @@ module _ (f : ℕ → Bool) (n : ℕ) where
   pub counted_skip : (k k' : ℕ) → Counted k n → f n ≡ false → k' ≡ k → Counted k' (n + 1)
   counted_skip k k' h e i = (omega (arith, ap length (listed_skip e)), omega arith)
 
-and_assoc : (a b c : Bool) → (a && b) && c ≡ a && (b && c)
-and_assoc true b c = refl
-and_assoc false b c = refl
-
-pub every_snoc : {X : Type 0} (t : X → Bool) (xs : List X) (x : X) → every t (xs ++ x ∷ []) ≡ every t xs && t x
-every_snoc t [] x = go (t x)
+-- the flagged numbers as a filter
+pub listed_filter : (f : ℕ → Bool) (n : ℕ) → filter f (range_with_len 0 n) ≡ listed f n
+listed_filter f zero = refl
+listed_filter f (suc n) =
+    ap (λ k. filter f (range_with_len 0 k)) (sym (add-one n)) ∙ ap (filter f) (upto_more n) ∙ filter-append f (range_with_len 0 n) (n ∷ []) ∙ ap (λ xs. xs ++ cond (f n) (n ∷ []) []) (listed_filter f n)
   where
-    go : (b : Bool) → b && true ≡ b
-    go true = refl
-    go false = refl
-every_snoc t (y ∷ xs) x = ap (λ b. t y && b) (every_snoc t xs x) ∙ sym (and_assoc (t y) (every t xs) (t x))
+    upto_more : (n : ℕ) → range_with_len 0 (n + 1) ≡ range_with_len 0 n ++ n ∷ []
+    upto_more n = sym (map-id (range_with_len 0 (n + 1))) ∙ map-range_with_len_more (λ x. x) 0 n n (omega arith) ∙ ap (λ xs. xs ++ n ∷ []) (map-id (range_with_len 0 n))
 
-module _ (f : ℕ → Bool) (n : ℕ) (t : ℕ → Bool) (b b' : Bool) (h : b ≡ every t (listed f n)) where
-  pub every_add : f n ≡ true → b' ≡ b && t n → b' ≡ every t (listed f (n + 1))
-  every_add e i = i ∙ ap (λ x. x && t n) h ∙ sym (every_snoc t (listed f n) n) ∙ sym (ap (every t) (listed_add f n e))
-
-  pub every_skip : f n ≡ false → b' ≡ b → b' ≡ every t (listed f (n + 1))
-  every_skip e i = i ∙ h ∙ sym (ap (every t) (listed_skip f n e))
+pub every_all : {X : Type 0} (t : X → Bool) (xs : List X) → list_all t xs ≡ every t xs
+every_all t [] = refl
+every_all t (x ∷ xs) = ap (λ b. t x && b) (every_all t xs)
 
 pub concat_snoc : {X : Type 0} (g : ℕ → List X) (xs : List ℕ) (x : ℕ) → concat (map g (xs ++ x ∷ [])) ≡ concat (map g xs) ++ g x
 concat_snoc g [] x = append-nil (g x)
 concat_snoc g (y ∷ xs) x = ap (λ r. g y ++ r) (concat_snoc g xs x) ∙ sym (append_assoc (g y) (concat (map g xs)) (g x))
+
+-- marks of the reached states list them
+pub marks_listed : (m : Meaning) (f : ℕ → Bool) → ((s : ℕ) → f s ≡ reached m s) → (n : ℕ) → filter f (range_with_len 0 n) ≡ listed (reached m) n
+marks_listed m f same n = listed_filter f n ∙ ap (λ g. listed g n) (fun_ext same)

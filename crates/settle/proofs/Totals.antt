@@ -1,37 +1,39 @@
--- Rows counted place by place, and state by state.
-use Rattle.std.proofs.Common.{◌≡◌, ℕ, ◌+◌, ◌*◌, ◌≤◌, Bool, true, false, List, [], ◌∷◌, ◌++◌, length, Some, None, ap, arith}
-use mathlib.Core.Path.{fun_ext}
+-- How many rows there are, of a state and of a list of states.
+use Rattle.std.proofs.Common.{◌≡◌, ℕ, zero, suc, ◌+◌, ◌*◌, ◌<◌, ◌≤◌, ◌^◌, Bool, true, false, cond, List, [], ◌∷◌, length, Some, None, Option, refl, ap, ◌∙◌, arith}
+use Rattle.std.specs.List.{sum_by}
+use Rattle.std.specs.Option.{option_to_list}
 use Rattle.std.proofs.lemmas.List.{length-append}
-use Rattle.automata.specs.Automaton.{Meaning, Production}
+use Rattle.std.proofs.lemmas.List.Sums.{sum_by-cons}
+use Rattle.automata.specs.Automaton.{Meaning, Production, Sound}
 use Rattle.automata.specs.Rows.{rows_below, rows_of}
-use Rattle.ledger.specs.Reach.{reached, reached_states, listed}
+use Rattle.ledger.specs.Reach.{listed}
 use Rattle.settle.specs.Sizes.{row_total}
-use Rattle.settle.proofs.Ascending.{listed_add, listed_skip}
-use Rattle.settle.proofs.Fitting.{rows_add, rows_skip}
 
-module _ (m : Meaning) (s k : ℕ) where
-  abbrev pub Rowed : ℕ → ℕ → Type 0
-  Rowed n j = (n ≡ length (rows_below m s j)) × (n ≤ j)
+one_or_none : (x : Option Production) → length (option_to_list x) ≤ 1
+one_or_none None = omega arith
+one_or_none (Some p) = omega arith
 
-  pub rowed_add : (n n' : ℕ) (p : Production) → Rowed n k → m.row s k ≡ Some p → n' ≡ n + 1 → Rowed n' (k + 1)
-  rowed_add n n' p h e i = (omega (arith, ap length (rows_add m s k p e), length-append (rows_below m s k) (p ∷ [])), omega arith)
+-- a state has at most as many rows as places
+pub rows_few : (m : Meaning) (s n : ℕ) → length (rows_below m s n) ≤ n
+rows_few m s zero = omega arith
+rows_few m s (suc n) = omega (arith, length-append (rows_below m s n) (option_to_list (m.row s n)), rows_few m s n, one_or_none (m.row s n))
 
-  pub rowed_skip : (n n' : ℕ) → Rowed n k → m.row s k ≡ None → n' ≡ n → Rowed n' (k + 1)
-  rowed_skip n n' h e i = (omega (arith, ap length (rows_skip m s k e)), omega arith)
+pub total_sum : (m : Meaning) (xs : List ℕ) → sum_by (λ s. length (rows_of m s)) xs ≡ row_total m xs
+total_sum m [] = refl
+total_sum m (x ∷ xs) = sum_by-cons (λ s. length (rows_of m s)) x xs ∙ ap (λ n. length (rows_of m x) + n) (total_sum m xs)
 
-total_snoc : (m : Meaning) (xs : List ℕ) (x : ℕ) → row_total m (xs ++ x ∷ []) ≡ row_total m xs + length (rows_of m x)
-total_snoc m [] x = omega arith
-total_snoc m (y ∷ xs) x = omega (arith, total_snoc m xs x)
+listed_few : (f : ℕ → Bool) (n : ℕ) → length (listed f n) ≤ n
+listed_few f zero = omega arith
+listed_few f (suc n) = omega (arith, length-append (listed f n) (cond (f n) (n ∷ []) []), listed_few f n, bit (f n))
+  where
+    bit : (b : Bool) → length (cond b (n ∷ []) []) ≤ 1
+    bit true = omega arith
+    bit false = omega arith
 
-module _ (m : Meaning) (f : ℕ → Bool) (s : ℕ) where
-  abbrev pub Totalled : ℕ → ℕ → Type 0
-  Totalled n j = (n ≡ row_total m (listed f j)) × (n ≤ 65536 * j)
+total_le : (m : Meaning) → m.places ≤ 65536 → (xs : List ℕ) → row_total m xs ≤ 65536 * length xs
+total_le m h [] = omega arith
+total_le m h (x ∷ xs) = omega (arith, total_le m h xs, rows_few m x m.places)
 
-  pub total_add : (n n' k : ℕ) → Totalled n s → f s ≡ true → k ≡ length (rows_of m s) → k ≤ 65536 → n' ≡ n + k → Totalled n' (s + 1)
-  total_add n n' k h e i l j = (omega (arith, ap (row_total m) (listed_add f s e), total_snoc m (listed f s) s), omega arith)
-
-  pub total_skip : (n n' : ℕ) → Totalled n s → f s ≡ false → n' ≡ n → Totalled n' (s + 1)
-  total_skip n n' h e i = (omega (arith, ap (row_total m) (listed_skip f s e)), omega arith)
-
-pub marked_states : (m : Meaning) (f : ℕ → Bool) → ((s : ℕ) → f s ≡ reached m s) → listed f m.states ≡ reached_states m
-marked_states m f e = ap (λ g. listed g m.states) (fun_ext e)
+-- the total fits a machine's number
+pub total_fits : (m : Meaning) → Sound m → (f : ℕ → Bool) → row_total m (listed f m.states) < 2 ^ 64
+total_fits m sm f = let a = total_le m sm.few_places (listed f m.states) in let b = listed_few f m.states in omega (arith, a, b, sm.few_states)

@@ -4,7 +4,7 @@
 
 mod checking;
 mod numbering;
-mod reaching;
+mod reached;
 pub mod settle;
 pub mod sizes;
 mod writing;

@@ -1,34 +1,31 @@
-// New numbers for the marked states, ascending.
-ghost use Rattle.std.specs.Prelude.{◌≡◌, ℕ, ◌<◌, ◌≤◌, length, slice_index};
-ghost use Rattle.layers.specs.Marks.{mark};
-ghost use Rattle.ledger.specs.Reach.{listed};
+// New numbers for the reached states, ascending.
+ghost use Rattle.std.specs.Prelude.{◌≡◌, ℕ, ◌<◌, slice_index};
+ghost use Rattle.ledger.specs.Reach.{number};
 
-// How many of the states below `states` are marked.
-pub(crate) fn count_marked(marks: &[bool], states: usize) -> usize
-    requires { states ≤ length marks.now }
-    ensures { result ≡ length (listed (mark marks.now) states) }
-{
-    let mut count = 0;
-    for state in 0..states {
-        if marks[state] {
-            count += 1;
-        }
-    }
-    count
-}
+use crate::reached::Reached;
+use automata::automaton::Automaton;
 
-// The new number of each state: how many marked states are below it.
-pub(crate) fn number_states(marks: &[bool]) -> [u16; 1024]
-    requires { length marks.now ≡ 1024 }
-    ensures { (s : ℕ) → s < 1024 → slice_index result s ≡ length (listed (mark marks.now) s) }
-{
-    let mut numbers = [0u16; 1024];
-    let mut count: u16 = 0;
-    for state in 0..1024 {
-        numbers[state] = count;
-        if marks[state] {
-            count += 1;
-        }
+impl<A: Automaton> Reached<'_, A> {
+    // The new number of a state: how many reached states are below it.
+    pub(crate) fn number(&self, state: usize) -> usize
+        ensures { result ≡ number (A.Automaton.meaning self.now.pile.now) state }
+    {
+        (0..state).filter(|below| self.marks.has(*below)).count()
     }
-    numbers
+
+    // The new numbers of all states at once.
+    pub(crate) fn numbers(&self) -> [u16; 1024]
+        ensures { (s : ℕ) → s < 1024 → slice_index result s ≡ number (A.Automaton.meaning self.now.pile.now) s }
+    {
+        let mut numbers = [0u16; 1024];
+        // by hand: a `scan` would carry the same count in a closure
+        let mut count: u16 = 0;
+        for (state, number) in numbers.iter_mut().enumerate() {
+            *number = count;
+            if self.marks.has(state) {
+                count += 1;
+            }
+        }
+        numbers
+    }
 }

@@ -3,10 +3,7 @@ ghost use Rattle.std.specs.Prelude.{◌≡◌, false, is_ok};
 ghost use Rattle.ledger.specs.Ledger.{settle as settle_call, settle_answer, step, Follows};
 ghost use Rattle.register.specs.Held.{held, lent};
 
-use crate::checking::judged;
-use crate::numbering::number_states;
-use crate::reaching::mark_reached;
-use crate::writing::{enter_all_rows, enter_states};
+use crate::reached::Reached;
 use automata::automaton::Automaton;
 use refusals::refusal::SettleRefusal;
 use register::open::Open;
@@ -19,12 +16,11 @@ pub fn settle<A: Automaton>(pile: &A, target: &mut Open<'_>) -> Result<(), Settl
     ensures history { Follows (held target.old) (settle_call (A.Automaton.meaning pile.now)) (held target.new) }
     ensures same { is_ok result ≡ false → lent target.new ≡ lent target.old }
 {
-    let marks = mark_reached(pile);
-    judged(pile, &marks, target)?;
-    let numbers = number_states(&marks);
-    enter_states(target, &marks, pile.states());
-    enter_all_rows(target, pile, &marks, &numbers);
-    let root = numbers[pile.root()] as usize;
+    let reached = Reached::of(pile);
+    reached.judged(target)?;
+    reached.enter_states(target);
+    reached.enter_rows(target);
+    let root = reached.number(pile.root());
     let _ = target.root(root);
     Ok(())
 }

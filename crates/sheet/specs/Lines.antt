@@ -1,6 +1,7 @@
 -- What each line of a sheet enters, and a whole sheet.
-use Rattle.std.specs.Prelude.{◌≡◌, ℕ, ◌+◌, cond, ◌&&◌, List, [], ◌∷◌, ◌++◌, length, Ok, Err, Result, ◌==◌, nat_le}
-use Rattle.refusals.specs.declared.refusal.SheetRefusal.TheVariants.{Long, Byte, Kind, Fields, Many}
+use Rattle.std.specs.Prelude.{◌≡◌, ℕ, ◌+◌, cond, List, [], ◌∷◌, ◌++◌, length, Some, None, Ok, Err, Option, Result, ◌==◌, nat_le}
+use Rattle.std.specs.List.{list_all}
+use Rattle.refusals.specs.declared.refusal.SheetRefusal.TheVariants.{Long, Byte, Kind, Many}
 use Rattle.tickets.specs.Check.{ticket_checked}
 use Rattle.rules.specs.Bar.{bar_checked}
 use Rattle.ledger.specs.Ledger.{add_form, add_state, add_row, name_root, as_row}
@@ -9,73 +10,66 @@ use Rattle.fields.specs.declared.fault.Stop.{Stop}
 use Rattle.fields.specs.declared.fault.Stop.TheVariants.{Refused, Memory}
 use Rattle.fields.specs.Fault.{of_field, bind}
 use Rattle.fields.specs.Parts.{fields, lines}
-use Rattle.fields.specs.Words.{all, plain, number_of}
+use Rattle.fields.specs.Words.{plain, number_of}
 use Rattle.fields.specs.Tokens.{head, others}
-use Rattle.fields.specs.Names.{name_at, fresh_at, given_at, number_at, places_at}
+use Rattle.fields.specs.Names.{count_at, new_at, known_at, number_at, places_at}
 use Rattle.entries.specs.AtLine.{entering, at_bar, at_ticket}
 use Rattle.sheet.specs.Entered.{Entered, with_form, with_state, with_ledger, with_level, with_bar, with_ticket}
 
--- the fields fs after the kind are as many as they should be
-abbrev pub counted : {X : Type 0} → ℕ → ℕ → List (List ℕ) → Result X Fault → Result X Fault
-counted l n fs r = cond (length fs == n) r (Err (of_field Fields l 1))
-
 -- F: name, arity
 abbrev pub form_line : ℕ → Entered → List (List ℕ) → Result Entered Fault
-form_line l e fs = counted l 2 fs
-    (bind (name_at l 2 (head fs)) (λ n.
-    bind (fresh_at e.forms l 2 n) (λ _.
+form_line l e fs =
+    bind (count_at l 2 2 fs) (λ _.
+    bind (new_at e.forms l 2 (head fs)) (λ n.
     bind (number_at l 3 (number_of (head (others fs)))) (λ a.
     bind (entering l e.ledger (add_form a)) (λ g.
-    Ok (with_form e n g))))))
+    Ok (with_form e n g)))))
 
 -- S: name
 abbrev pub state_line : ℕ → Entered → List (List ℕ) → Result Entered Fault
-state_line l e fs = counted l 1 fs
-    (bind (name_at l 2 (head fs)) (λ n.
-    bind (fresh_at e.states l 2 n) (λ _.
+state_line l e fs =
+    bind (count_at l 1 1 fs) (λ _.
+    bind (new_at e.states l 2 (head fs)) (λ n.
     bind (entering l e.ledger add_state) (λ g.
-    Ok (with_state e n g)))))
+    Ok (with_state e n g))))
 
 -- R: state, form, points, 0 to 4 children
 abbrev pub row_line : ℕ → Entered → List (List ℕ) → Result Entered Fault
-row_line l e fs = cond (nat_le 3 (length fs) && nat_le (length fs) 7)
-    (bind (name_at l 2 (head fs)) (λ s.
-    bind (given_at e.states l 2 s) (λ q.
-    bind (name_at l 3 (head (others fs))) (λ f.
-    bind (given_at e.forms l 3 f) (λ p.
+row_line l e fs =
+    bind (count_at l 3 7 fs) (λ _.
+    bind (known_at e.states l 2 (head fs)) (λ q.
+    bind (known_at e.forms l 3 (head (others fs))) (λ p.
     bind (number_at l 4 (number_of (head (others (others fs))))) (λ n.
     bind (places_at e.states l 5 (others (others (others fs)))) (λ cs.
     bind (entering l e.ledger (add_row q (as_row p n cs))) (λ g.
-    Ok (with_ledger e g)))))))))
-    (Err (of_field Fields l 1))
+    Ok (with_ledger e g)))))))
 
 -- G: root state
 abbrev pub root_line : ℕ → Entered → List (List ℕ) → Result Entered Fault
-root_line l e fs = counted l 1 fs
-    (bind (name_at l 2 (head fs)) (λ s.
-    bind (given_at e.states l 2 s) (λ q.
+root_line l e fs =
+    bind (count_at l 1 1 fs) (λ _.
+    bind (known_at e.states l 2 (head fs)) (λ q.
     bind (entering l e.ledger (name_root q)) (λ g.
-    Ok (with_ledger e g)))))
+    Ok (with_ledger e g))))
 
 -- L: form, level
 abbrev pub level_line : ℕ → Entered → List (List ℕ) → Result Entered Fault
-level_line l e fs = counted l 2 fs
-    (bind (name_at l 2 (head fs)) (λ f.
-    bind (given_at e.forms l 2 f) (λ p.
+level_line l e fs =
+    bind (count_at l 2 2 fs) (λ _.
+    bind (known_at e.forms l 2 (head fs)) (λ p.
     bind (number_at l 3 (number_of (head (others fs)))) (λ n.
-    Ok (with_level e p n)))))
+    Ok (with_level e p n))))
 
 -- B: outer, position, inner; at most eight
 abbrev pub bar_line : ℕ → Entered → List (List ℕ) → Result Entered Fault
-bar_line l e fs = counted l 3 fs
-    (bind (name_at l 2 (head fs)) (λ f.
-    bind (given_at e.forms l 2 f) (λ outer.
+bar_line l e fs =
+    bind (count_at l 3 3 fs) (λ _.
+    bind (known_at e.forms l 2 (head fs)) (λ outer.
     bind (number_at l 3 (number_of (head (others fs)))) (λ position.
-    bind (name_at l 4 (head (others (others fs)))) (λ g.
-    bind (given_at e.forms l 4 g) (λ inner.
+    bind (known_at e.forms l 4 (head (others (others fs)))) (λ inner.
     cond (nat_le 8 (length e.bars)) (Err (of_field Many l 1))
     (bind (at_bar l (bar_checked e.ledger.arities outer position inner)) (λ _.
-    Ok (with_bar e (record { outer = outer; position = position; inner = inner }))))))))))
+    Ok (with_bar e (record { outer = outer; position = position; inner = inner }))))))))
 
 -- T: any number of forms, a ticket in postfix order; at most 64
 abbrev pub ticket_line : ℕ → Entered → List (List ℕ) → Result Entered Fault
@@ -85,15 +79,16 @@ ticket_line l e fs =
     (bind (at_ticket l (ticket_checked e.ledger.arities ns)) (λ _.
     Ok (with_ticket e ns))))
 
--- the record kind: a field of one byte, else 0
-abbrev pub letter : List ℕ → ℕ
-letter [] = 0
-letter (b ∷ []) = b
-letter (b ∷ c ∷ bs) = 0
+-- the record kind: a field of one byte
+abbrev pub letter : List ℕ → Option ℕ
+letter [] = None
+letter (b ∷ []) = Some b
+letter (b ∷ c ∷ bs) = None
 
 -- F is 70, S 83, R 82, G 71, L 76, B 66 and T 84
-abbrev pub by_kind : ℕ → Entered → ℕ → List (List ℕ) → Result Entered Fault
-by_kind l e k fs =
+abbrev pub by_kind : ℕ → Entered → Option ℕ → List (List ℕ) → Result Entered Fault
+by_kind l e None fs = Err (of_field Kind l 1)
+by_kind l e (Some k) fs =
     cond (k == 70) (form_line l e fs)
     (cond (k == 83) (state_line l e fs)
     (cond (k == 82) (row_line l e fs)
@@ -107,7 +102,7 @@ by_kind l e k fs =
 abbrev pub line_entered : ℕ → Entered → List ℕ → Result Entered Fault
 line_entered l e bs =
     cond (nat_le (length bs) 32768)
-    (cond (all plain bs) (by_kind l e (letter (head (fields bs))) (others (fields bs))) (Err (of_field Byte l 1)))
+    (cond (list_all plain bs) (by_kind l e (letter (head (fields bs))) (others (fields bs))) (Err (of_field Byte l 1)))
     (Err (of_field Long 0 0))
 
 -- what the lines enter in order, the first of which is line l: the first fault ends it

@@ -4,4 +4,5 @@
 
 pub mod lines;
 pub mod notes;
+pub mod reader;
 pub mod reading;

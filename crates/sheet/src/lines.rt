@@ -1,125 +1,79 @@
 // Reading a line, and a whole sheet.
 ghost use Rattle.std.specs.Prelude.{◌≡◌, ◌<◌, ◌≤◌, length, Ok, Err};
-ghost use Rattle.ledger.specs.Ledger.{blank_ledger};
-ghost use Rattle.register.specs.Held.{held};
 ghost use Rattle.fields.specs.Fault.{Steps};
 ghost use Rattle.fields.specs.Parts.{AllParted};
 ghost use Rattle.fields.specs.Words.{NumbersLaw};
 ghost use Rattle.fields.specs.Names.{PlacesExact};
 ghost use Rattle.fields.specs.Tokens.{word, spelled};
-ghost use Rattle.sheet.specs.Entered.{nothing_entered};
 ghost use Rattle.sheet.specs.Lines.{letter, line_entered, ReadsSheet, FirstFault, EnteredInOrder};
-ghost use Rattle.sheet.specs.Held.{entered_by};
+ghost use Rattle.sheet.specs.Held.{entered};
 
-use crate::notes::Notes;
+use crate::reader::Reader;
 use fields::cuts::cut_line;
 use fields::fault::{Fault, Stop};
 use fields::lexer::{Lexer, Token};
 use fields::words::is_plain;
-use refusals::refusal::{Refusal, SheetRefusal};
-use register::open::Open;
-use std::alloc::Global;
+use refusals::refusal::SheetRefusal;
 
-// The record kind as a character, or NUL where the field is not one byte.
-fn kind(token: Token) -> char
+// The record kind as a character, where the field is one byte.
+fn kind(token: Token) -> Option<char>
     ensures { result ≡ letter (spelled (word token.entry)) }
 {
     match token.text() {
-        [letter] => char::from(*letter),
-        _ => '\0',
+        [letter] => Some(char::from(*letter)),
+        _ => None,
     }
 }
 
-impl Notes {
-    // Notes of nothing.
-    pub fn new(heap: Global) -> Notes
-        ensures { (o : Open) → held o ≡ blank_ledger → entered_by result o ≡ nothing_entered }
-    {
-        Notes {
-            forms: Vec::new(heap),
-            states: Vec::new(heap),
-            levels: Vec::new(heap),
-            bars: Vec::new(heap),
-            tickets: Vec::new(heap),
-        }
-    }
-
-    // Reads one line, which has the given number, into the register and these notes. A refused line enters nothing.
-    pub fn line(
-        &mut self,
-        heap: Global,
-        register: &mut Open<'_>,
-        line: u32,
-        bytes: &[u8],
-    ) -> Result<(), Stop>
-        ensures { Steps (line_entered line (entered_by self.old register.old) bytes.now) (entered_by self.old register.old) result (entered_by self.new register.new) }
+impl Reader<'_> {
+    // Reads one line, which has the given number, into the register and the notes. A refused line enters nothing.
+    pub fn line(&mut self, line: u32, bytes: &[u8]) -> Result<(), Stop>
+        ensures { Steps (line_entered line (entered self.old) bytes.now) (entered self.old) result (entered self.new) }
     {
         if bytes.len() > 32768 {
-            return Err(Stop::Refused(Fault {
-                refusal: Refusal::Sheet(SheetRefusal::Long),
-                line: 0,
-                field: 0,
-            }));
+            return Err(Fault::new(SheetRefusal::Long.into(), 0).into());
         }
+        let mut lexer = Lexer::new(bytes, line);
         if !is_plain(bytes) {
-            return Err(Stop::Refused(Fault {
-                refusal: Refusal::Sheet(SheetRefusal::Byte),
-                line,
-                field: 1,
-            }));
+            return Err(lexer.fault(SheetRefusal::Byte, 1).into());
         }
-        let mut lexer = Lexer::new(bytes);
         match kind(lexer.next()) {
-            'F' => self.form_line(heap, register, line, lexer),
-            'S' => self.state_line(heap, register, line, lexer),
-            'R' => self.row_line(heap, register, line, lexer),
-            'G' => self.root_line(register, line, lexer),
-            'L' => self.level_line(register, line, lexer),
-            'B' => self.bar_line(register, line, lexer),
-            'T' => self.ticket_line(heap, register, line, lexer),
-            _ => Err(Stop::Refused(Fault {
-                refusal: Refusal::Sheet(SheetRefusal::Kind),
-                line,
-                field: 1,
-            })),
+            Some('F') => self.form_line(lexer),
+            Some('S') => self.state_line(lexer),
+            Some('R') => self.row_line(lexer),
+            Some('G') => self.root_line(lexer),
+            Some('L') => self.level_line(lexer),
+            Some('B') => self.bar_line(lexer),
+            Some('T') => self.ticket_line(lexer),
+            _ => Err(lexer.fault(SheetRefusal::Kind, 1).into()),
         }
     }
 
-    // Reads all lines of a sheet into the register and these notes.
-    pub fn read(&mut self, heap: Global, register: &mut Open<'_>, sheet: &[u8]) -> Result<(), Stop>
-        ensures reads { ReadsSheet (entered_by self.old register.old) sheet.now result (entered_by self.new register.new) }
+    // Reads all lines of a sheet into the register and the notes.
+    pub fn read(&mut self, sheet: &[u8]) -> Result<(), Stop>
+        ensures reads { ReadsSheet (entered self.old) sheet.now result (entered self.new) }
         ensures first_fault { FirstFault }
         ensures in_order { EnteredInOrder }
         ensures parted { AllParted }
         ensures numbers { NumbersLaw }
         ensures places { PlacesExact }
     {
-        self.read_lines(heap, register, sheet)
+        self.read_lines(sheet)
     }
 
-    fn read_lines(
-        &mut self,
-        heap: Global,
-        register: &mut Open<'_>,
-        sheet: &[u8],
-    ) -> Result<(), Stop>
-        ensures { ReadsSheet (entered_by self.old register.old) sheet.now result (entered_by self.new register.new) }
+    fn read_lines(&mut self, sheet: &[u8]) -> Result<(), Stop>
+        ensures { ReadsSheet (entered self.old) sheet.now result (entered self.new) }
     {
         if sheet.len() > 32768 {
-            return Err(Stop::Refused(Fault {
-                refusal: Refusal::Sheet(SheetRefusal::Long),
-                line: 0,
-                field: 0,
-            }));
+            return Err(Fault::new(SheetRefusal::Long.into(), 0).into());
         }
         let mut rest = sheet;
+        // cut and numbered one at a time: the library's split would give one more line behind the last end
         let mut line: u32 = 0;
         while let Some((bytes, after)) = cut_line(rest) {
             line += 1;
-            match self.line(heap, register, line, bytes) {
-                Ok(()) => rest = after,
-                Err(stop) => return Err(stop),
-            }
+            self.line(line, bytes)?;
+            rest = after;
         }
         Ok(())
     }

@@ -1,22 +1,16 @@
 // What a sheet names and collects beside the register.
 ghost use Rattle.std.specs.Prelude.{◌≡◌, ◌≤◌, vec_len};
 
-// A bar, by form numbers.
-#[derive(Clone, Copy)]
-pub struct BarEntry {
-    pub outer: u16,
-    pub position: u16,
-    pub inner: u16,
-}
+use rules::bar::Nesting;
 
 #[derive(Drop)]
 pub struct Notes {
     // the names of the forms and of the states, by number, which has 16 bits
     pub forms: Vec<Vec<u8>>,
     pub states: Vec<Vec<u8>>,
-    // the level of each form
+    // the level of each form, in a list of its own: a listing takes the names as one slice, and a ladder the levels
     pub levels: Vec<u16>,
-    pub bars: Vec<BarEntry>,
+    pub bars: Vec<Nesting>,
     // the form numbers of each ticket, in postfix order
     pub tickets: Vec<Vec<u16>>,
     ghost formed: { vec_len forms ≤ 65535 },

@@ -1,8 +1,7 @@
 use automata::row::Row;
 use fields::fault::{Fault, Stop};
-use refusals::refusal::Refusal;
 use register::open::Open;
-use sheet::notes::Notes;
+use sheet::reader::Reader;
 use std::alloc::Global;
 use std::process::Abort;
 use std::test::Fail;
@@ -16,26 +15,21 @@ struct Case {
     field: u32,
 }
 
-const EMPTY: Row = Row {
-    form: 0,
-    points: 0,
-    arity: 0,
-    children: [0; 4],
-};
-
 // The fault that a sheet ends with, or none where it is read and can be sealed.
 fn fault_of(rt: &impl Abort, heap: Global, sheet: &[u8]) -> Result<Option<Fault>, Fail> {
-    let mut rows = vec![in heap; EMPTY; 2048]?;
+    let mut rows = vec![in heap; Row::default(); 2048]?;
     assert!(rt; Open::check(&rows).is_ok());
-    let mut register = Open::blank(&mut rows);
-    let mut notes = Notes::new(heap);
-    match notes.read(heap, &mut register, sheet) {
+    let mut reader = Reader::new(heap, Open::blank(&mut rows));
+    match reader.read(sheet) {
         Err(Stop::Refused(fault)) => Ok(Some(fault)),
         Err(Stop::Memory) => Err(Fail::new("no memory")),
-        Ok(()) => match register.can_seal() {
-            Ok(()) => Ok(None),
-            Err(refusal) => Ok(Some(Fault::new(Refusal::Register(refusal), 0))),
-        },
+        Ok(()) => Ok(
+            reader
+                .register
+                .can_seal()
+                .err()
+                .map(|refusal| Fault::new(refusal.into(), 0)),
+        ),
     }
 }
 
@@ -672,6 +666,7 @@ fn grown(heap: Global, piece: &[u8], times: usize) -> Result<Vec<u8>, Fail> {
     Ok(sheet)
 }
 
+// The number of the fault; 0 where there is none, as the cases below are written.
 fn number_of(rt: &impl Abort, heap: Global, sheet: &[u8]) -> Result<u16, Fail> {
     match fault_of(rt, heap, sheet)? {
         Some(fault) => Ok(fault.refusal.number()),

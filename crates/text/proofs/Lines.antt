@@ -14,10 +14,10 @@ on was is x y e h = e ∙ ap (λ l. l ++ x) h
 pub regroup : (o a b c d e f : List ℕ) → (((((o ++ a) ++ b) ++ c) ++ d) ++ e) ++ f ≡ o ++ (a ++ (b ++ (c ++ (d ++ (e ++ f)))))
 regroup o a b c d e f = simp append_assoc
 
-pub row_whole : (o0 o1 o2 o3 o4 o5 o6 name ks : List ℕ) (s p i : ℕ) → length ks ≤ i → o1 ≡ o0 ++ 82 ∷ [] → o2 ≡ o1 ++ figure s → o3 ≡ o2 ++ 9 ∷ name → o4 ≡ o3 ++ figure p → o5 ≡ o4 ++ flat_map figure (take i ks) → o6 ≡ o5 ++ 10 ∷ [] → o6 ≡ o0 ++ row_line s name p ks
-row_whole o0 o1 o2 o3 o4 o5 o6 name ks s p i all e1 e2 e3 e4 e5 e6 =
-    let full = e5 ∙ ap (λ l. o4 ++ flat_map figure l) (take_all i ks all) in
-    on o5 o6 _ _ e6 (on o4 o5 _ _ full (on o3 o4 _ _ e4 (on o2 o3 _ _ e3 (on o1 o2 _ _ e2 e1)))) ∙ regroup o0 (82 ∷ []) (figure s) (9 ∷ name) (figure p) (flat_map figure ks) (10 ∷ [])
+pub row_whole : (o0 o1 o2 o3 o4 o5 o6 name name' ks ks' : List ℕ) (s p i : ℕ) → name ≡ name' → ks ≡ ks' → length ks ≤ i → o1 ≡ o0 ++ 82 ∷ [] → o2 ≡ o1 ++ figure s → o3 ≡ o2 ++ 9 ∷ name → o4 ≡ o3 ++ figure p → o5 ≡ o4 ++ flat_map figure (take i ks) → o6 ≡ o5 ++ 10 ∷ [] → o6 ≡ o0 ++ row_line s name' p ks'
+row_whole o0 o1 o2 o3 o4 o5 o6 name name' ks ks' s p i en ek all e1 e2 e3 e4 e5 e6 =
+    let full = e5 ∙ ap (λ l. o4 ++ flat_map figure l) (take_all i ks all ∙ ek) in
+    on o5 o6 _ _ e6 (on o4 o5 _ _ full (on o3 o4 _ _ e4 (on o2 o3 _ _ (e3 ∙ ap (λ l. o2 ++ 9 ∷ l) en) (on o1 o2 _ _ e2 e1)))) ∙ regroup o0 (82 ∷ []) (figure s) (9 ∷ name') (figure p) (flat_map figure ks') (10 ∷ [])
 
 -- what is written, with the text of what is left, is the whole: one piece more
 pub piece : (whole was is x rest : List ℕ) → was ++ (x ++ rest) ≡ whole → is ≡ was ++ x → is ++ rest ≡ whole

@@ -13,9 +13,9 @@ pub fn fault_line(heap: Global, fault: Fault) -> Result<Vec<u8>, AllocError>
     let mut out = Vec::new(heap);
     out.push(b'E')?;
     put_field(&mut out, fault.refusal.layer().as_bytes())?;
-    put_number(&mut out, heap, fault.refusal.number() as usize)?;
-    put_number(&mut out, heap, fault.line as usize)?;
-    put_number(&mut out, heap, fault.field as usize)?;
+    put_number(&mut out, fault.refusal.number() as usize)?;
+    put_number(&mut out, fault.line as usize)?;
+    put_number(&mut out, fault.field as usize)?;
     out.push(b'\n')?;
     Ok(out)
 }

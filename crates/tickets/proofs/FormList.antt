@@ -1,7 +1,6 @@
 -- What a checked list of forms has.
-use Rattle.std.proofs.Common.{◌≡◌, ℕ, zero, suc, ◌+◌, ◌<◌, ◌≤◌, Bool, true, false, cond, ◌&&◌, leb, List, [], ◌∷◌, length, get_or, drop, is_ok, Ok, Err, refl, ap, ◌∙◌, arith}
-use Rattle.std.proofs.lemmas.List.{at_drop_more}
-use Rattle.std.proofs.lemmas.Bool.{and_parts, leb-true, le-leb, lt-leb}
+use Rattle.std.proofs.Common.{◌≡◌, ℕ, zero, suc, ◌≤◌, Bool, true, false, cond, leb, List, [], ◌∷◌, length, get_or, is_ok, Ok, Err, refl, arith}
+use Rattle.std.proofs.lemmas.Bool.{and_parts, leb-true}
 use Rattle.refusals.specs.declared.refusal.RegisterRefusal.{RegisterRefusal}
 use Rattle.refusals.specs.declared.refusal.RegisterRefusal.TheVariants.{HighArity, FullForms}
 use Rattle.tickets.specs.declared.forms.Forms.{Forms}
@@ -22,18 +21,8 @@ parts a e = go (each_at_most 4 a) refl (leb (length a) 64) refl e
     go true ex false ey h = let z : ◌≡◌ {A = ℕ} 0 1 = cc in absurd (omega arith)
     go false ex y ey h = let z : ◌≡◌ {A = ℕ} 0 1 = cc in absurd (omega arith)
 
-pub arities_few : (a : List ℕ) → is_ok (forms_checked a) ≡ true → length a ≤ 64
-arities_few a e = (parts a e).0
-
 pub forms_few : (f : Forms) → length (arities_of f) ≤ 64
 forms_few f = (parts (arities_of f) f.few).0
 
 pub forms_low : (f : Forms) (i : ℕ) → get_or (arities_of f) i 0 ≤ 4
 forms_low f = (parts (arities_of f) f.few).1
-
--- one number more
-pub at_most_more : (n : ℕ) (xs : List ℕ) (i : ℕ) → i < length xs → get_or xs i 0 ≤ n → each_at_most n (drop i xs) ≡ each_at_most n (drop (i + 1) xs)
-at_most_more n xs i l h = at_drop_more (each_at_most n) xs i 0 l ∙ ap (λ b. b && each_at_most n (drop (i + 1) xs)) (le-leb (get_or xs i 0) n h)
-
-pub at_most_stop : (n : ℕ) (xs : List ℕ) (i : ℕ) → i < length xs → n < get_or xs i 0 → each_at_most n (drop i xs) ≡ false
-at_most_stop n xs i l h = at_drop_more (each_at_most n) xs i 0 l ∙ ap (λ b. b && each_at_most n (drop (i + 1) xs)) (lt-leb (get_or xs i 0) n h)

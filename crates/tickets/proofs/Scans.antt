@@ -1,6 +1,5 @@
 -- The steps of the postfix check.
-use Rattle.std.proofs.Common.{◌≡◌, ℕ, ◌+◌, ◌-◌, ◌<◌, ◌≤◌, Bool, true, false, cond, ltb, List, [], ◌∷◌, length, get_or, drop, Ok, Err, Result, refl, ap, ◌∙◌, arith}
-use Rattle.std.proofs.lemmas.List.{drop_more, drop_all}
+use Rattle.std.proofs.Common.{◌≡◌, ℕ, ◌+◌, ◌-◌, ◌<◌, ◌≤◌, Bool, true, false, cond, ltb, List, [], ◌∷◌, length, get_or, Ok, Err, Result, refl, ◌∙◌, arith}
 use Rattle.std.proofs.lemmas.Bool.{ltb-true, ltb-false, le-ltb, lt-ltb, cond-true, cond-false}
 use Rattle.refusals.specs.declared.refusal.TicketRefusal.{TicketRefusal}
 use Rattle.refusals.specs.declared.refusal.TicketRefusal.TheVariants.{Unknown, Few, Many}
@@ -20,16 +19,6 @@ scan_more a p d f fs h l = cond-true _ _ _ (lt-ltb f (length a) h) ∙ cond-fals
 
 pub scan_many : (a : List ℕ) (p d : ℕ) → 1 < d → scan a p d [] ≡ Err Many
 scan_many a p d h = cond-true _ _ _ (lt-ltb 1 d h)
-
-pub scan_one : (a : List ℕ) (p d : ℕ) → d ≤ 1 → scan a p d [] ≡ Ok tt
-scan_one a p d h = cond-false _ _ _ (le-ltb 1 d h)
-
--- the same in a loop
-pub scan_at : (a : List ℕ) (p d : ℕ) (xs : List ℕ) (i : ℕ) → i < length xs → scan a p d (drop i xs) ≡ scan a p d (get_or xs i 0 ∷ drop (i + 1) xs)
-scan_at a p d xs i h = ap (scan a p d) (drop_more xs i 0 h)
-
-pub scan_end : (a : List ℕ) (p d : ℕ) (xs : List ℕ) (i : ℕ) → length xs ≤ i → scan a p d (drop i xs) ≡ scan a p d []
-scan_end a p d xs i h = ap (scan a p d) (drop_all i xs h)
 
 -- what a passing check says of its first node
 pub scan_first : (a : List ℕ) (p d f : ℕ) (fs : List ℕ) → scan a p d (f ∷ fs) ≡ Ok tt → (f < length a) × (get_or a f 0 ≤ d) × (scan a (p + 1) (d - get_or a f 0 + 1) fs ≡ Ok tt)

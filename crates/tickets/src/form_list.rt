@@ -1,5 +1,5 @@
 // Making a list of forms, and asking it.
-ghost use Rattle.std.specs.Prelude.{◌≡◌, true, length, is_ok, if◌then◌else◌, Some, None, nat_lt, slice_index};
+ghost use Rattle.std.specs.Prelude.{◌≡◌, true, length, is_ok, if◌then◌else◌, Some, None, nat_lt, slice_index, IfOk, MatchResult, Ok, Err};
 ghost use Rattle.tickets.specs.Forms.{forms_checked};
 ghost use Rattle.tickets.specs.Checked.{arities_of};
 
@@ -15,10 +15,8 @@ impl<'f> Forms<'f> {
     pub fn check(arities: &[u8]) -> Result<(), RegisterRefusal>
         ensures { result ≡ forms_checked arities.now }
     {
-        for arity in arities {
-            if *arity > HIGHEST_ARITY {
-                return Err(RegisterRefusal::HighArity);
-            }
+        if !arities.iter().all(|arity| *arity <= HIGHEST_ARITY) {
+            return Err(RegisterRefusal::HighArity);
         }
         if arities.len() > MOST_FORMS {
             return Err(RegisterRefusal::FullForms);
@@ -34,6 +32,15 @@ impl<'f> Forms<'f> {
         Forms { arities }
     }
 
+    // The list of forms of these arities, or why they are none.
+    pub fn checked(arities: &'f [u8]) -> Result<Forms<'f>, RegisterRefusal>
+        ensures answers { MatchResult result (λ _. forms_checked arities.now ≡ Ok tt) (λ e. forms_checked arities.now ≡ Err e) }
+        ensures forms { IfOk result (λ f. arities_of f ≡ arities.now) }
+    {
+        Forms::check(arities)?;
+        Ok(Forms::new(arities))
+    }
+
     // How many forms there are.
     pub fn count(&self) -> usize
         ensures { result ≡ length (arities_of self.now) }
@@ -45,10 +52,6 @@ impl<'f> Forms<'f> {
     pub fn arity(&self, form: usize) -> Option<u8>
         ensures { result ≡ (if nat_lt form (length (arities_of self.now)) then Some (slice_index (arities_of self.now) form) else None) }
     {
-        if form < self.arities.len() {
-            Some(self.arities[form])
-        } else {
-            None
-        }
+        self.arities.get(form).copied()
     }
 }

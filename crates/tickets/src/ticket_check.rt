@@ -1,5 +1,5 @@
 // The check of a ticket, and the checked ticket.
-ghost use Rattle.std.specs.Prelude.{◌≡◌, true, length, is_ok};
+ghost use Rattle.std.specs.Prelude.{◌≡◌, true, length, is_ok, IfOk, MatchResult, Ok, Err};
 ghost use Rattle.tickets.specs.Ticket.{postfix, Formed};
 ghost use Rattle.tickets.specs.Check.{scan, ticket_checked, CheckExact};
 ghost use Rattle.tickets.specs.Checked.{arities_of, nodes_of, ticket_of};
@@ -12,19 +12,17 @@ use refusals::refusal::TicketRefusal;
 fn scanned(arities: &[u8], nodes: &[u16]) -> Result<(), TicketRefusal>
     ensures { result ≡ scan arities.now 0 0 nodes.now }
 {
-    let mut trees = 0;
+    let mut trees = 0usize;
     for (place, form) in nodes.iter().enumerate() {
-        if *form as usize >= arities.len() {
-            return Err(TicketRefusal::Unknown(place));
-        }
-        let arity = arities[*form as usize] as usize;
-        if trees < arity {
-            return Err(TicketRefusal::Few(place));
-        }
-        trees = trees - arity + 1;
+        let arity = arities
+            .get(*form as usize)
+            .ok_or(TicketRefusal::Unknown(place))?;
+        let left = trees
+            .checked_sub(*arity as usize)
+            .ok_or(TicketRefusal::Few(place))?;
+        trees = left + 1;
     }
-    let many = trees > 1;
-    if many {
+    if trees > 1 {
         return Err(TicketRefusal::Many);
     }
     Ok(())
@@ -54,6 +52,18 @@ impl<'f, 'n> CheckedTicket<'f, 'n> {
         ensures spelled { postfix (ticket_of result) ≡ nodes_of result }
     {
         CheckedTicket { forms, nodes }
+    }
+
+    // The ticket of the nodes, or why they are none.
+    pub fn checked(
+        forms: Forms<'f>,
+        nodes: &'n [u16],
+    ) -> Result<CheckedTicket<'f, 'n>, TicketRefusal>
+        ensures answers { MatchResult result (λ _. ticket_checked (arities_of forms.entry) nodes.now ≡ Ok tt) (λ e. ticket_checked (arities_of forms.entry) nodes.now ≡ Err e) }
+        ensures ticket { IfOk result (λ t. (arities_of t.forms ≡ arities_of forms.entry) × (nodes_of t ≡ nodes.now)) }
+    {
+        CheckedTicket::check(&forms, nodes)?;
+        Ok(CheckedTicket::new(forms, nodes))
     }
 
     // How many nodes the ticket has.

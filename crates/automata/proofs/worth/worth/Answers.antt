@@ -1,15 +1,16 @@
-use Rattle.std.proofs.Common.{◌≡◌, ℕ, suc, ◌+◌, ◌-◌, ◌*◌, ◌<◌, ◌≤◌, List, length, get_or, take, drop, Ok, sym, refl, ap, ◌∙◌, subst, mul-le-mul_right, arith}
+use Rattle.std.proofs.Common.{◌≡◌, ℕ, suc, ◌+◌, ◌-◌, ◌*◌, ◌<◌, ◌≤◌, List, length, get_or, take, drop, Ok, sym, ap, ◌∙◌, subst, mul-le-mul_right, arith}
 use Rattle.std.proofs.lemmas.List.{take_all, get_or_read, get_or-drop, ext_get_or, length-drop}
 use Rattle.std.proofs.lemmas.Bool.{le-ltb, lt-ltb, cond-true, cond-false}
 use Rattle.automata.specs.Worth.{worth}
 use Rattle.tickets.specs.Check.{tree}
 use Rattle.tickets.specs.Ticket.{postfix}
+use Rattle.tickets.specs.Checked.{ticket_of}
 use Rattle.automata.specs.Table.{Line, prefix_tree}
 use Rattle.automata.proofs.ByRows.{worth_by_rows}
 use Rattle.automata.proofs.EachOnce.{readings_exact}
 use Rattle.automata.proofs.Cells.{cell_in}
 use Rattle.tickets.proofs.Checks.{check_tree, ok_from}
-use Rattle.automata.proofs.Subtrees.{holds_worths}
+use Rattle.automata.proofs.Subtrees.{holds_worths, fills_refused}
 use Rattle.automata.proofs.Tables.{passed}
 use Rattle.automata.proofs.worth.worth.Goals as goal
 
@@ -19,9 +20,7 @@ returns-then-start-states g c =
     let k : m.states ≤ c.args.start = omega arith in
     record {
       answers = sym (cond-false _ _ _ (le-ltb c.args.start m.states k));
-      cells = λ e. let z : ◌≡◌ {A = ℕ} 0 1 = cc in absurd (omega arith);
-      beyond = λ e. let z : ◌≡◌ {A = ℕ} 0 1 = cc in absurd (omega arith);
-      same = λ e. refl;
+      fills = fills_refused g.M.Measure.ops m (ticket_of c.args.ticket.now) _ c.args.scratch.now;
       by_rows = worth_by_rows g.met.M.Measure.lawful;
       listed = readings_exact;
     }
@@ -39,9 +38,7 @@ returns-then-scratch-nodes g c =
     let k : length c.args.scratch.now < n * m.states = omega arith in
     record {
       answers = sym (cond-true _ _ _ (lt-ltb c.args.start m.states l) ∙ cond-true _ _ _ (lt-ltb (length c.args.scratch.now) (n * m.states) k));
-      cells = λ e. let z : ◌≡◌ {A = ℕ} 0 1 = cc in absurd (omega arith);
-      beyond = λ e. let z : ◌≡◌ {A = ℕ} 0 1 = cc in absurd (omega arith);
-      same = λ e. refl;
+      fills = fills_refused g.M.Measure.ops m (ticket_of c.args.ticket.now) _ c.args.scratch.now;
       by_rows = worth_by_rows g.met.M.Measure.lawful;
       listed = readings_exact;
     }
@@ -79,10 +76,12 @@ returns g c =
     let bigq : q ≤ length xs = omega arith in
     record {
       answers = ap Ok v ∙ sym (cond-true _ _ _ (lt-ltb s m.states sl) ∙ cond-false _ _ _ (le-ltb (length xs) q bigq));
-      cells = λ e. holds_worths o m ys a (tree a ns) made.0 (subst (λ (zs : List ℕ). (p : ℕ) → p < length zs → Line o m ys p (prefix_tree a zs p)) (sym made.1) c.fill.ensures.fills);
-      beyond = λ e. ext_get_or o.none (drop q ys) (drop q xs) (length-drop q ys ∙ ap (λ k. k - q) size ∙ sym (length-drop q xs))
-          (λ i l. get_or-drop q ys i o.none ∙ c.fill.ensures.keeps (q + i) (omega arith) ∙ sym (get_or-drop q xs i o.none));
-      same = λ e. let z : ◌≡◌ {A = ℕ} 0 1 = cc in absurd (omega arith);
+      fills = record {
+        cells = λ e. holds_worths o m ys a (tree a ns) made.0 (subst (λ (zs : List ℕ). (p : ℕ) → p < length zs → Line o m ys p (prefix_tree a zs p)) (sym made.1) c.fill.ensures.fills);
+        beyond = λ e. ext_get_or o.none (drop q ys) (drop q xs) (length-drop q ys ∙ ap (λ k. k - q) size ∙ sym (length-drop q xs))
+            (λ i l. get_or-drop q ys i o.none ∙ c.fill.ensures.keeps (q + i) (omega arith) ∙ sym (get_or-drop q xs i o.none));
+        same = λ e. let z : ◌≡◌ {A = ℕ} 0 1 = cc in absurd (omega arith);
+      };
       by_rows = worth_by_rows g.met.M.Measure.lawful;
       listed = readings_exact;
     }

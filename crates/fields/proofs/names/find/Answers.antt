@@ -1,14 +1,11 @@
-use Rattle.std.proofs.Common.{true, false, sym, ◌∙◌}
-use Rattle.std.proofs.lemmas.Slice.Eq.{slice_eq-Decides}
-use Rattle.std.proofs.lemmas.Bool.Decides.{Decides-at, Decides-eqb}
-use Rattle.fields.proofs.Placed.{place_test, place_end}
+use Rattle.std.proofs.Common.{◌∙◌, vec_items, rules, tests}
+use Rattle.std.specs.Str.{bytes_eq}
+use Rattle.std.proofs.lemmas.Iterator.{YieldsList-from_slice}
+use Rattle.std.proofs.lemmas.Iterator.Search.{position_from_yields_List}
+use Rattle.fields.proofs.Placed.{place_of_owned}
 use Rattle.fields.proofs.names.find.Goals as goal
 
-pub returns-then-eq : goal.returns-then-eq
-returns-then-eq c = sym (c.loop-i.invariant ∙ place_test _ _ _ _ _ true c.loop-i-test.true c.index-names-i.is c.as_slice.ensures.value (Decides-at true c.eq.result (sym c.if-eq.true) (slice_eq-Decides Decides-eqb _ _ _ c.eq.ensures)))
-
-pub loop-i-preserved : goal.loop-i-preserved
-loop-i-preserved c = c.loop-i.invariant ∙ place_test _ _ _ _ _ false c.loop-i-test.true c.index-names-i.is c.as_slice.ensures.value (Decides-at false c.eq.result (sym c.if-eq.false) (slice_eq-Decides Decides-eqb _ _ _ c.eq.ensures))
-
 pub returns : goal.returns
-returns c = sym (c.loop-i.invariant ∙ place_end _ _ _ c.loop-i-test.false)
+returns c =
+    position_from_yields_List (λ v. bytes_eq (vec_items v) c.args.name.now) _ _ _ c.position.ensures.ran (YieldsList-from_slice c.args.names.now cc) (λ x b q k. search (rules, tests))
+    ∙ place_of_owned c.args.name.now c.args.names.now

@@ -1,14 +1,18 @@
-use Rattle.std.proofs.Common.{sym, refl, ◌∙◌}
-use Rattle.std.proofs.lemmas.Bool.{true≢false}
-use Rattle.layers.specs.Marks.{mark}
-use Rattle.layers.proofs.Growing.{ready_at, unready_more, unready_end}
+use Rattle.std.proofs.Common.{◌≡◌, rules, sym, ◌∙◌}
+use Rattle.std.specs.List.{list_any}
+use Rattle.std.proofs.lemmas.Iterator.{YieldsList-from_slice}
+use Rattle.std.proofs.lemmas.Iterator.Search.{any_from_yields_List}
+use borrow.Author.Tests.{tests}
+use Rattle.automata.specs.Automaton.{production}
+use Rattle.automata.specs.declared.row.Row.{Row}
+use Rattle.layers.specs.Marks.{mark, each_marked}
+use Rattle.layers.proofs.Growing.{ready_found, found_ready}
 use Rattle.layers.proofs.productive.any_ready.Goals as goal
 
-pub returns-then-all_marked : goal.returns-then-all_marked
-returns-then-all_marked c = (λ _. ready_at (mark c.args.marks.now) c.args.rows.now c.loop-row.row-index _ c.loop-row-test.true (sym c.all_marked.ensures ∙ c.if-all_marked.true), λ _. refl)
-
-pub loop-row-preserved : goal.loop-row-preserved
-loop-row-preserved c = unready_more (mark c.args.marks.now) c.args.rows.now c.loop-row.row-index _ c.loop-row-test.true c.loop-row.invariant (sym c.all_marked.ensures ∙ c.if-all_marked.false)
-
 pub returns : goal.returns
-returns c = (λ e. absurd (true≢false (sym e)), λ h. absurd (unready_end (mark c.args.marks.now) c.args.rows.now c.loop-row.row-index c.loop-row-test.false c.loop-row.invariant h))
+returns c =
+    let f = mark c.args.marks.now in
+    let rows = c.args.rows.now in
+    let e : c.any.result ≡ list_any (λ (r : Row). each_marked f (production r).children) rows =
+    any_from_yields_List (λ (r : Row). each_marked f (production r).children) _ _ c.any.result c.any.ensures.ran (YieldsList-from_slice rows cc) (λ x b q k. search (rules, tests)) in
+    (λ t. ready_found f rows (sym e ∙ t), λ h. e ∙ found_ready f rows h)

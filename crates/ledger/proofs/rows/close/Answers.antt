@@ -1,9 +1,8 @@
 use Rattle.std.proofs.Common.{arith}
-use Rattle.ledger.proofs.Moves.{closed_none, closed_more}
+use Rattle.ledger.proofs.Moves.{closed_from}
 use Rattle.ledger.proofs.rows.close.Goals as goal
 
-pub loop-i-init : goal.loop-i-init
-loop-i-init c = closed_none c.args.rows.now c.args.at (omega arith)
-
-pub loop-i-preserved : goal.loop-i-preserved
-loop-i-preserved c = closed_more c.args.rows.now c.loop-i.rows c.args.at c.loop-i.i _ (omega arith) (omega arith) c.loop-i.invariant
+pub returns : goal.returns
+returns c =
+    let moved = c.copy_within.ensures.by_index in
+    closed_from c.args.rows.now c.copy_within.new.self c.args.at c.args.end (omega arith) (omega arith) c.copy_within.ensures.len moved.0 moved.1 moved.2

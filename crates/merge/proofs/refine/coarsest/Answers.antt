@@ -1,4 +1,4 @@
-use Rattle.std.proofs.Common.{List, length, vec_items, Vec, sym, ap, ◌∙◌, subst}
+use Rattle.std.proofs.Common.{ℕ, List, length, vec_items, Vec, sym, ap, ◌∙◌, subst₂}
 use lib.ListN.{length-replicate}
 use Rattle.std.specs.declared.alloc.Global.{Global}
 use Rattle.std.proofs.lemmas.Slice.Eq.{slice_eq-Decides}
@@ -17,20 +17,20 @@ loop-groups-init g c =
 
 pub returns-then-eq : goal.returns-then-eq
 returns-then-eq g c =
-    let P : List (Vec Row Global) → Type 0 = λ z. Refined z (vec_items c.loop-groups.groups) (vec_items c.in_ok-next.next) in (
-      done (g.A.Automaton.meaning c.args.below.now) (vec_items c.in_ok-rows.rows) c.in_ok-rows.ensures (vec_items c.loop-groups.groups) (vec_items c.in_ok-next.next) (subst P c.as_slice.ensures.value c.in_ok-next.ensures) c.loop-groups.invariant.0 ((slice_eq-Decides Decides-eqb _ _ c.eq.result c.eq.ensures).0 c.if-eq.true),
+    let P : List ℕ → List (Vec Row Global) → Type 0 = λ y z. Refined z y (vec_items c.in_ok-next.next) in (
+      done (g.A.Automaton.meaning c.args.below.now) (vec_items c.in_ok-rows.rows) c.in_ok-rows.ensures (vec_items c.loop-groups.groups) (vec_items c.in_ok-next.next) (subst₂ P c.deref.ensures.value c.deref-in-loop-groups.ensures.value c.in_ok-next.ensures) c.loop-groups.invariant.0 ((slice_eq-Decides Decides-eqb _ _ c.eq.result c.eq.ensures).0 c.if-eq.true),
       c.loop-groups.invariant.1,
     )
 
 pub loop-groups-smaller : goal.loop-groups-smaller
 loop-groups-smaller g c =
-    let P : List (Vec Row Global) → Type 0 = λ z. Refined z (vec_items c.loop-groups.groups) (vec_items c.in_ok-next.next) in
-    falls (g.A.Automaton.meaning c.args.below.now) (vec_items c.in_ok-rows.rows) c.in_ok-rows.ensures (vec_items c.loop-groups.groups) (vec_items c.in_ok-next.next) (subst P c.as_slice.ensures.value c.in_ok-next.ensures) (sym c.loop-groups.groups.ok.0 ∙ c.loop-groups.invariant.1) c.loop-groups.invariant.0 (not_from_Decides c.eq.result (slice_eq-Decides Decides-eqb _ _ c.eq.result c.eq.ensures) c.if-eq.false)
+    let P : List ℕ → List (Vec Row Global) → Type 0 = λ y z. Refined z y (vec_items c.in_ok-next.next) in
+    falls (g.A.Automaton.meaning c.args.below.now) (vec_items c.in_ok-rows.rows) c.in_ok-rows.ensures (vec_items c.loop-groups.groups) (vec_items c.in_ok-next.next) (subst₂ P c.deref.ensures.value c.deref-in-loop-groups.ensures.value c.in_ok-next.ensures) (sym c.loop-groups.groups.ok.0 ∙ c.loop-groups.invariant.1) c.loop-groups.invariant.0 (not_from_Decides c.eq.result (slice_eq-Decides Decides-eqb _ _ c.eq.result c.eq.ensures) c.if-eq.false)
 
 pub loop-groups-preserved : goal.loop-groups-preserved
 loop-groups-preserved g c =
-    let P : List (Vec Row Global) → Type 0 = λ z. Refined z (vec_items c.loop-groups.groups) (vec_items c.in_ok-next.next) in
-    let r = subst P c.as_slice.ensures.value c.in_ok-next.ensures in (
+    let P : List ℕ → List (Vec Row Global) → Type 0 = λ y z. Refined z y (vec_items c.in_ok-next.next) in
+    let r = subst₂ P c.deref.ensures.value c.deref-in-loop-groups.ensures.value c.in_ok-next.ensures in (
       step (g.A.Automaton.meaning c.args.below.now) (vec_items c.in_ok-rows.rows) c.in_ok-rows.ensures (vec_items c.loop-groups.groups) (vec_items c.in_ok-next.next) r (g.A.Automaton.sound c.args.below.now) c.loop-groups.invariant.0,
       c.in_ok-next.next.ok.0 ∙ r.long ∙ c.in_ok-rows.ensures.long,
     )

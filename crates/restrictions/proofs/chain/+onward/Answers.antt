@@ -1,7 +1,5 @@
-use Rattle.std.proofs.Common.{◌≡◌, ℕ, ◌-◌, true, List, [], map, length, drop, Err, vec_items, sym, refl, ap, ◌∙◌, subst, arith}
-use Rattle.std.proofs.lemmas.List.{take_all, length-drop}
+use Rattle.std.proofs.Common.{◌≡◌, ℕ, true, List, [], map, Err, vec_items, sym, refl, ap, ◌∙◌, subst}
 use Rattle.std.proofs.lemmas.Result.{err_from_is_err_and}
-use Rattle.std.proofs.lemmas.Bool.{eqb-true, eqb-false}
 use Rattle.register.specs.declared.sealed.Sealed.{Sealed}
 use Rattle.ledger.specs.Ledger.{Ledger, add_form, enter_all, blank_ledger}
 use Rattle.ledger.specs.Layout.{laid_out, Good}
@@ -24,12 +22,11 @@ is_sealed v = refl
 target_formed : (v : Sealed) (xs : List ℕ) (was blank : Ledger) → blank ≡ blank_ledger → xs ≡ (held_sealed v).arities → was ≡ enter_all blank (map add_form xs) → was ≡ formed (held_sealed v).arities
 target_formed v xs was blank eb ex ew = ew ∙ ap (λ z. enter_all z (map add_form xs)) eb ∙ ap (λ z. enter_all blank_ledger (map add_form z)) ex ∙ formed_from (held_sealed v) (good_held v)
 
-pub returns-then-is_empty : goal.returns-then-is_empty
-returns-then-is_empty t c =
+pub returns-in_default : goal.returns-in_default
+returns-in_default t c =
     let n = c.args.notes.now in
-    let rules = c.args.rules.now in
-    no_rule_left (vec_items n.levels) [] (lists n.forms) (lists n.tickets) (held_sealed c.args.current.now) rules _ _ c.listing.result
-    (eqb-true (length rules) 0 (sym c.is_empty.ensures ∙ c.if-is_empty.true)) (ap (map vec_items) c.deref.ensures.value) (ap (map vec_items) c.deref-then-is_empty.ensures.value) c.listing.ensures.answers
+    no_rule_left (vec_items n.levels) [] (lists n.forms) (lists n.tickets) (held_sealed c.args.current.now) c.args.rules.now _ _ c.listing.result
+    c.in_default.ensures.cases (ap (map vec_items) c.deref.ensures.value) (ap (map vec_items) c.deref-in_default.ensures.value) c.listing.ensures.answers
 
 pub returns-in_err-narrowed : goal.returns-in_err-narrowed
 returns-in_err-narrowed t c =
@@ -37,8 +34,7 @@ returns-in_err-narrowed t c =
     let n = c.args.notes.now in
     let v = c.args.current.now in
     let rules = c.args.rules.now in
-    let some = eqb-false (length rules) 0 (sym c.is_empty.ensures ∙ c.if-is_empty.false) in
-    first_stops (vec_items n.levels) c.deref-2.result.now (lists n.forms) (lists n.tickets) (held_sealed v) rules (good_held v) (is_sealed v) _ (omega (arith, some)) c.deref-2.ensures.value
+    first_stops (vec_items n.levels) c.deref-2.result.now (lists n.forms) (lists n.tickets) (held_sealed v) rules (good_held v) (is_sealed v) c.in-Some.rule.now c.in-Some.rest.now c.in-Some.ensures.cases.0 c.deref-2.ensures.value
     (held c.enter_forms.new.target) (held c.by_rule.new.target) (target_formed v _ (held c.enter_forms.new.target) (held c.blank-target.result) c.blank-target.ensures.value c.forms.ensures c.enter_forms.ensures)
     c.in_err-narrowed.field-0.0 c.from_residual-in_err-narrowed.result (e.1 ∙ ap Err e.2) c.in_err-narrowed.ensures
 
@@ -59,8 +55,7 @@ returns t c =
     let n = c.args.notes.now in
     let v = c.args.current.now in
     let rules = c.args.rules.now in
-    let some = eqb-false (length rules) 0 (sym c.is_empty.ensures ∙ c.if-is_empty.false) in
-    first_goes_on (vec_items n.levels) c.deref-2.result.now (lists n.forms) (lists n.tickets) (held_sealed v) rules (good_held v) (is_sealed v) _ (omega (arith, some)) c.deref-2.ensures.value
+    first_goes_on (vec_items n.levels) c.deref-2.result.now (lists n.forms) (lists n.tickets) (held_sealed v) rules (good_held v) (is_sealed v) c.in-Some.rule.now c.in-Some.rest.now c.in-Some.ensures.cases.0 c.deref-2.ensures.value
     (held c.enter_forms.new.target) (held c.by_rule.new.target) (target_formed v _ (held c.enter_forms.new.target) (held c.blank-target.result) c.blank-target.ensures.value c.forms.ensures c.enter_forms.ensures)
     c.in_ok-narrowed.narrowed (held_sealed c.seal-next.result) c.onward.result c.in_ok-narrowed.ensures c.seal-next.ensures.steps
-    (subst (λ xs. Returns (Only (Lists (vec_items n.levels) (held_sealed c.seal-next.result) xs (lists n.forms) (lists n.tickets))) c.onward.result) (take_all (length rules - 1) (drop 1 rules) (omega (arith, length-drop 1 rules))) c.onward.ensures)
+    c.onward.ensures

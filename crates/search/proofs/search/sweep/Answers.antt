@@ -1,46 +1,66 @@
-use Rattle.std.proofs.Common.{◌≡◌, ℕ, ◌<◌, Bool, false, List, length, refl, inl, inr, arith}
+use Rattle.std.proofs.Common.{◌+◌, ◌<◌, inl, inr, sym, ap, ◌∙◌, subst, arith}
+use Rattle.std.proofs.lemmas.Bool.{ltb-true, ltb-false}
 use Rattle.layers.specs.Marks.{mark}
-use Rattle.search.specs.Sweep.{Listed}
-use Rattle.layers.proofs.Marking.{marked_lt}
-use Rattle.search.proofs.Searches.{swept_same, swept_more}
-use Rattle.automata.specs.Automaton.{Meaning, Sound}
-use Rattle.search.specs.declared.line.Line.{Line}
+use Rattle.search.proofs.Searches.{Swept, swept_none, swept_same, swept_more, room}
 use Rattle.search.proofs.search.sweep.Goals as goal
-use Rattle.search.proofs.search.sweep.Goals.{then-state-start+then-not-marks-state+in-Some, then-state-start+then-not-marks-state+in_default, else-state-start, else-state-start-via-then-state-start+else-not-marks-state, else-state-start-via-else-state-start}
+use Rattle.search.proofs.search.sweep.Goals.{then-state-start+then-not-has+in-Some, then-state-start+then-not-has+in_default, else-state-start, else-state-start-via-then-state-start+else-not-has, else-state-start-via-else-state-start}
 
--- there is room for one more line
-below : (m : Meaning) → Sound m → (start : ℕ) (marks : List Bool) (ls : List Line) (n s : ℕ) → Listed m start marks ls n → s < m.states → mark marks s ≡ false → (n < 1024) × (length ls ≡ 1024)
-below m sm start marks ls n s h l un = (omega (arith, h.counted, marked_lt (mark marks) m.states s l un, sm.few_states), h.long_lines)
+pub loop-state-init : goal.loop-state-init
+loop-state-init g c =
+    let m = g.A.Automaton.meaning c.args.automaton.now in
+    let ls = c.args.order.now.items in
+    (subst (λ n. Swept m c.args.start n (mark c.args.marks.now) ls 0) (sym c.len-before.ensures.value) (swept_none m c.args.start (mark c.args.marks.now) ls c.requires.listed c.requires.unready), c.states-state-end.ensures)
 
-pub offset_bounds-lines-listed : goal.offset_bounds-lines-listed
-offset_bounds-lines-listed g c =
-    let b = below (g.A.Automaton.meaning c.args.automaton.now) (g.A.Automaton.sound c.args.automaton.now) c.args.start _ _ _ c.loop-state.state c.loop-state.invariant.0.0 (omega (arith, c.loop-state.invariant.1)) c.if-not-marks-state.true in
-    omega arith
+pub add-requires : goal.add-requires
+add-requires g c = let sm = g.A.Automaton.sound c.args.automaton.now in omega (arith, c.loop-state.invariant.1, c.loop-state-test.true, sm.few_states)
 
-pub bounds-lines-listed : goal.bounds-lines-listed
-bounds-lines-listed g c =
-    let b = below (g.A.Automaton.meaning c.args.automaton.now) (g.A.Automaton.sound c.args.automaton.now) c.args.start _ _ _ c.loop-state.state c.loop-state.invariant.0.0 (omega (arith, c.loop-state.invariant.1)) c.if-not-marks-state.true in
-    omega arith
+pub overflow_cast-state : goal.overflow_cast-state
+overflow_cast-state g c = let sm = g.A.Automaton.sound c.args.automaton.now in omega (arith, c.loop-state.invariant.1, c.loop-state-test.true, sm.few_states)
 
-pub overflow_add-listed : goal.overflow_add-listed
-overflow_add-listed g c =
-    let b = below (g.A.Automaton.meaning c.args.automaton.now) (g.A.Automaton.sound c.args.automaton.now) c.args.start _ _ _ c.loop-state.state c.loop-state.invariant.0.0 (omega (arith, c.loop-state.invariant.1)) c.if-not-marks-state.true in
-    omega arith
+pub push-requires : goal.push-requires
+push-requires g c =
+    let m = g.A.Automaton.meaning c.args.automaton.now in
+    let sm = g.A.Automaton.sound c.args.automaton.now in
+    let l : c.loop-state.state < m.states = omega (arith, c.loop-state.invariant.1, c.loop-state-test.true) in
+    let r = room m c.args.start (mark c.loop-state.marks) c.loop-state.order.items c.loop-state.invariant.0.listed sm c.loop-state.state l (sym c.has.ensures ∙ c.if-not-has.true) in
+    (omega arith, omega (arith, r, sm.few_states))
 
 pub loop-state-preserved : goal.loop-state-preserved
 loop-state-preserved g c =
     let m = g.A.Automaton.meaning c.args.automaton.now in
-    let sm = g.A.Automaton.sound c.args.automaton.now in
-    let l : c.loop-state.state < m.states = omega (arith, c.loop-state.invariant.1) in
-    elim c.if-state-start.branch [
-      | then-state-start+then-not-marks-state+in-Some w ↦ (swept_more m c.args.start c.args.count c.loop-state.marks c.if-state-start.marks c.loop-state.lines c.if-state-start.lines c.loop-state.listed c.if-state-start.listed c.loop-state.state c.loop-state.invariant.0 w.in-Some.place (record { state = c.loop-state.state; place = w.in-Some.place }) sm.few_states l w.if-state-start.true refl refl w.if-not-marks-state.true w.in-Some.ensures w.marks-is w.lines-is w.listed-is, c.loop-state.invariant.1)
-      | then-state-start+then-not-marks-state+in_default w ↦ (swept_same m c.args.start c.args.count c.loop-state.marks c.if-state-start.marks c.loop-state.lines c.if-state-start.lines c.loop-state.listed c.if-state-start.listed c.loop-state.state c.loop-state.invariant.0 w.marks-is w.lines-is w.listed-is (inr (inr w.in_default.ensures)), c.loop-state.invariant.1)
-      | else-state-start w ↦ (
-        swept_same m c.args.start c.args.count c.loop-state.marks c.if-state-start.marks c.loop-state.lines c.if-state-start.lines c.loop-state.listed c.if-state-start.listed c.loop-state.state c.loop-state.invariant.0 w.marks-is w.lines-is w.listed-is
+    let start = c.args.start in
+    let before = c.len-before.result in
+    let s = c.loop-state.state in
+    let f = mark c.loop-state.marks in
+    let ls = c.loop-state.order.items in
+    let h = c.loop-state.invariant.0 in
+    let l : s < m.states = omega (arith, c.loop-state.invariant.1, c.loop-state-test.true) in (
+      elim c.if-state-start.branch [
+        | then-state-start+then-not-has+in-Some w ↦
+            subst (λ z. Swept m start before (mark z) c.if-state-start.order.items (s + 1)) (sym w.marks-is)
+            (subst (λ z. Swept m start before (mark w.add.new.self) z (s + 1)) (sym (ap (λ z. z.items) w.order-is ∙ w.push.ensures.items))
+            (swept_more m start before f ls s h (record { state = s; place = w.in-Some.place }) (mark w.add.new.self) l w.if-state-start.true (sym w.has.ensures ∙ w.if-not-has.true) w.in-Some.ensures w.add.ensures.here w.add.ensures.others))
+        | then-state-start+then-not-has+in_default w ↦
+            subst (λ z. Swept m start before (mark z) c.if-state-start.order.items (s + 1)) (sym w.marks-is)
+            (subst (λ z. Swept m start before f z (s + 1)) (sym (ap (λ z. z.items) w.order-is)) (swept_same m start before f ls s h (inr (inr w.in_default.ensures))))
+        | else-state-start w ↦
+            subst (λ z. Swept m start before (mark z) c.if-state-start.order.items (s + 1)) (sym w.marks-is)
+            (subst (λ z. Swept m start before f z (s + 1)) (sym (ap (λ z. z.items) w.order-is)) (swept_same m start before f ls s h
             (elim w.else-state-start.branch [
-              | else-state-start-via-then-state-start+else-not-marks-state w' ↦ inl w'.if-not-marks-state.false
+              | else-state-start-via-then-state-start+else-not-has w' ↦ inl (sym w'.has.ensures ∙ w'.if-not-has.false)
               | else-state-start-via-else-state-start w' ↦ inr (inl w'.if-state-start.false)
-            ]),
-        c.loop-state.invariant.1,
-      )
-    ]
+            ])))
+      ],
+      c.loop-state.invariant.1,
+    )
+
+pub returns : goal.returns
+returns g c =
+    let h = c.loop-state.invariant.0 in
+    let n = c.len-before.result in
+    let k = c.len.result in
+    record {
+      listed = h.listed;
+      more = λ e. let l : n < k = ltb-true n k e in omega (arith, l, c.len.ensures.value, c.len-before.ensures.value);
+      stuck = λ e s l. h.stuck (omega (arith, h.more, ltb-false n k e, c.len.ensures.value)) s (omega (arith, c.loop-state.invariant.1, c.loop-state-test.false));
+    }

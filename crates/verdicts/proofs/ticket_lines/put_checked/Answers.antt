@@ -1,4 +1,4 @@
-use Rattle.std.proofs.Common.{ℕ, List, ◌++◌, vec_items, ap, ◌∙◌}
+use Rattle.std.proofs.Common.{◌≡◌, ◌++◌, List, ℕ, OnOk, vec_items, subst}
 use Rattle.tickets.specs.Checked.{ticket_of}
 use Rattle.register.specs.Held.{held_sealed}
 use Rattle.verdicts.proofs.Read.{told}
@@ -6,5 +6,6 @@ use Rattle.verdicts.proofs.ticket_lines.put_checked.Goals as goal
 
 pub returns : goal.returns
 returns c =
-    c.in_ok-put_verdict.ensures
-    ∙ ap (λ (x : List ℕ). vec_items c.args.out.now ++ x) (told (held_sealed c.args.sealed.now) c.args.number (ticket_of c.args.ticket.now) _ _ _ c.in_ok-yes.ensures c.in_ok-count.ensures c.in_ok-fewest.ensures)
+    subst (λ (x : List ℕ). OnOk c.put_verdict.result (vec_items c.put_verdict.new.out ≡ vec_items c.args.out.now ++ x))
+    (told (held_sealed c.args.sealed.now) c.args.number (ticket_of c.args.ticket.now) _ _ _ c.in_ok-yes.ensures c.in_ok-count.ensures c.in_ok-fewest.ensures)
+    c.put_verdict.ensures

@@ -12,7 +12,7 @@ returns-in_err-put_ticket c =
     let p = err_from_is_err_and c.from_residual.result c.from_residual.ensures.1 in
     let ts = c.args.tickets.now in
     let i = c.loop-i.i in
-    let here : get_or (map vec_items ts) i [] ≡ c.as_slice.result.now = get_or-map vec_items ts i _ [] c.loop-i-test.true ∙ sym (ap vec_items c.index-tickets-i.is) ∙ sym c.as_slice.ensures.value in
+    let here : get_or (map vec_items ts) i [] ≡ c.deref.result.now = get_or-map vec_items ts i _ [] c.loop-i-test.true ∙ sym (ap vec_items c.index-tickets-i.is) ∙ sym c.deref.ensures.value in
     let lt : i < length (map vec_items ts) = omega (arith, c.loop-i-test.true, length-map ts vec_items) in
     rw (p.1, p.2) (stops _ _ _ (pass_stops (held_sealed c.args.sealed.now) (map vec_items ts) i _ lt here c.loop-i.invariant.0) c.in_err-put_ticket.ensures)
 
@@ -21,7 +21,7 @@ loop-i-preserved c =
     let ts = c.args.tickets.now in
     let i = c.loop-i.i in
     let l = held_sealed c.args.sealed.now in
-    let here : get_or (map vec_items ts) i [] ≡ c.as_slice.result.now = get_or-map vec_items ts i _ [] c.loop-i-test.true ∙ sym (ap vec_items c.index-tickets-i.is) ∙ sym c.as_slice.ensures.value in
+    let here : get_or (map vec_items ts) i [] ≡ c.deref.result.now = get_or-map vec_items ts i _ [] c.loop-i-test.true ∙ sym (ap vec_items c.index-tickets-i.is) ∙ sym c.deref.ensures.value in
     let lt : i < length (map vec_items ts) = omega (arith, c.loop-i-test.true, length-map ts vec_items) in
     let put = c.in_ok-put_ticket.ensures in
     (pass_more l (map vec_items ts) i _ lt here c.loop-i.invariant.0 put.0, text_more l (map vec_items ts) i _ lt here _ _ _ c.loop-i.invariant.1 put.1)

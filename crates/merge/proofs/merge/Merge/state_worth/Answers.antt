@@ -5,9 +5,7 @@ use Rattle.merge.proofs.merge.Merge.state_worth.Goals as goal
 pub returns : goal.returns
 returns g c = record {
   answers = c.worth.ensures.answers;
-  cells = c.worth.ensures.cells;
-  beyond = c.worth.ensures.beyond;
-  same = c.worth.ensures.same;
+  fills = c.worth.ensures.fills;
   preserves = merge_preserves g.met.M.Measure.lawful;
   joins = merge_joins;
   one = merge_one;

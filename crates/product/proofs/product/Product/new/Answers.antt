@@ -1,4 +1,4 @@
-use Rattle.std.proofs.Common.{◌≡◌, ℕ, ◌+◌, ◌*◌, ◌<◌, ◌≤◌, true, cond, leb, sym, refl, ap, ◌∙◌, ap₂, mul_comm, arith}
+use Rattle.std.proofs.Common.{◌≡◌, ◌+◌, ◌*◌, refl, ap₂, mul_comm, arith}
 use Rattle.std.proofs.lemmas.Nat.{mul-lt, mul-add-lt}
 use Rattle.product.proofs.Sized.{sized_product, checked_states, checked_places}
 use Rattle.product.proofs.product.Product.new.Goals as goal

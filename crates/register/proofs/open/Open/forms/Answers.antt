@@ -1,16 +1,12 @@
-use Rattle.std.proofs.Common.{false, arith}
+use Rattle.std.proofs.Common.{false}
 use Rattle.ledger.specs.Layout.{laid_out}
 use Rattle.ledger.specs.Soundness.{good_from}
-use Rattle.ledger.proofs.SaneRows.{sane_from}
 use Rattle.register.proofs.open.Open.forms.Goals as goal
 
-pub shared_ref_as_front-arities : goal.shared_ref_as_front-arities
-shared_ref_as_front-arities c = let v = c.args.self.now in let h = sane_from v.rows.now v.table v.sane in omega (arith, h.forms, h.arities_long)
-
-pub new-requires : goal.new-requires
+pub form_list-requires-clause-checked : goal.form_list-requires-clause-checked
 unfolding laid_out
-new-requires c = let v = c.args.self.now in (good_from (laid_out v.rows.now v.table false) v.good).arities
+form_list-requires-clause-checked c = let v = c.args.self.now in (good_from (laid_out v.rows.now v.table false) v.good).arities
 
 pub returns : goal.returns
 unfolding laid_out
-returns c = c.new.ensures
+returns c = c.form_list.ensures

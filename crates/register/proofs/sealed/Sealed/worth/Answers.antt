@@ -1,6 +1,6 @@
-use Rattle.std.proofs.Common.{◌≡◌, true, length, drop, is_ok, ap, ◌∙◌, subst}
+use Rattle.std.proofs.Common.{◌≡◌, true, length, ap, ◌∙◌, subst}
 use Rattle.tickets.specs.Checked.{ticket_of}
-use Rattle.automata.specs.Table.{HoldsWorths, cells_needed, worth_answer}
+use Rattle.automata.specs.Table.{FillsScratch, worth_answer}
 use Rattle.ledger.specs.Ledger.{book}
 use Rattle.ledger.specs.Layout.{laid_out}
 use Rattle.history.proofs.Standing.{holds_standing}
@@ -21,9 +21,7 @@ returns g c =
     let answers : r ≡ worth_answer o (book l) t c.args.start (length was) = c.worth.ensures.answers ∙ ap (λ m. worth_answer o m t c.args.start (length was)) e in
     record {
       answers = answers;
-      cells = subst (λ m. is_ok r ≡ true → HoldsWorths o m t is) e c.worth.ensures.cells;
-      beyond = subst (λ m. is_ok r ≡ true → drop (cells_needed m t) is ≡ drop (cells_needed m t) was) e c.worth.ensures.beyond;
-      same = c.worth.ensures.same;
+      fills = subst (λ m. FillsScratch o m t r was is) e c.worth.ensures.fills;
       value = answers_standing laws l t c.args.start (length was) r answers;
       sums = sums_standing laws l;
       stands = holds_standing l;

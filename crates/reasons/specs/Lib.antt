@@ -1,2 +1,0 @@
-pub mod Reason
-pub mod Sentence

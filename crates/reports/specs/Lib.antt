@@ -1,0 +1,4 @@
+pub mod Grammar
+pub mod House
+pub mod Levels
+pub mod Words
