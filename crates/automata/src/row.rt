@@ -13,14 +13,22 @@ pub struct Row {
     pub children: [u16; 4],
 }
 
+// How many children a row has.
+pub fn width(row: Row) -> usize
+    ensures value { result ≡ length (production row).children }
+    ensures few { result ≤ 4 }
+    ensures front { take result row.children ≡ (production row).children }
+{
+    (row.arity as usize).min(4)
+}
+
 impl Row {
     // The states that read the row's children.
     pub fn children(&self) -> &[u16]
         ensures value { result.now ≡ (production self.now).children }
         ensures few { length result.now ≤ 4 }
     {
-        let width = (self.arity as usize).min(4);
-        &self.children[..width]
+        &self.children[..width(*self)]
     }
 
     // The row with each child replaced by its number in a list, or by 0 past the end of the list.

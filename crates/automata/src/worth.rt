@@ -9,7 +9,7 @@ ghost use Rattle.automata.specs.Table.{Within, Line, Lines, cells_worth, cells_r
 
 use crate::automaton::Automaton;
 use crate::measure::Measure;
-use crate::row::Row;
+use crate::row::{Row, width};
 use arrayvec::ArrayVec;
 use refusals::refusal::WorthRefusal;
 use tickets::checked::CheckedTicket;
@@ -39,13 +39,24 @@ impl<'a, M: Measure> ChildLines<'a, M> {
         product
     }
 
-    // What a row adds to the worth of a node of a form.
-    fn row_worth(&self, form: u16, row: &Row) -> M
-        requires { all_below self.now.states (production row.now).children ≡ true }
-        ensures { result ≡ cells_row M.Measure.ops self.now.scratch.now self.now.states self.now.places.now form (shown (Some row.now)) }
+    // What a row of the node's form and arity adds. The row goes by value, and the call is kept, so that the loop over the rows
+    // only looks at the forms of those that don't fit.
+    #[inline(never)]
+    fn fitting_worth(&self, row: Row) -> M
+        requires below { all_below self.now.states (production row).children ≡ true }
+        requires same { length (production row).children ≡ length self.now.places.now }
+        ensures { result ≡ M.Measure.ops.times (M.Measure.ops.value row.points) (cells_worth M.Measure.ops self.now.scratch.now self.now.states self.now.places.now (production row).children) }
     {
-        if row.form == form && row.children().len() == self.places.len() {
-            M::value(row.points).times(self.children_worth(row.children()))
+        M::value(row.points).times(self.children_worth(row.children()))
+    }
+
+    // What a row adds to the worth of a node of a form.
+    fn row_worth(&self, form: u16, row: Row) -> M
+        requires { all_below self.now.states (production row).children ≡ true }
+        ensures { result ≡ cells_row M.Measure.ops self.now.scratch.now self.now.states self.now.places.now form (shown (Some row)) }
+    {
+        if row.form == form && width(row) == self.places.len() {
+            self.fitting_worth(row)
         } else {
             M::NONE
         }
@@ -60,7 +71,7 @@ impl<'a, M: Measure> ChildLines<'a, M> {
         // a loop: a chain would hand the rows on by place all the same, and `fold` would carry the sum in a closure
         for place in 0..automaton.places() {
             if let Some(row) = automaton.row(state, place) {
-                sum = sum.plus(self.row_worth(form, &row));
+                sum = sum.plus(self.row_worth(form, row));
             }
         }
         sum

@@ -2,7 +2,7 @@
 ghost use Rattle.std.specs.Prelude.{◌≡◌, map, vec_items};
 ghost use Rattle.fields.specs.Fault.{Collects, pointed};
 ghost use Rattle.fields.specs.Tokens.{others, to_read, line_of, head};
-ghost use Rattle.fields.specs.Names.{place_of, new_at, known_at, places_at};
+ghost use Rattle.fields.specs.Names.{place_of, fresh_at, given_at, new_at, known_at, places_at};
 
 use crate::fault::{Fault, Stop};
 use crate::lexer::Lexer;
@@ -16,6 +16,29 @@ pub fn find(names: &[Vec<u8>], name: &[u8]) -> Option<usize>
     names.iter().position(|n| n.as_slice() == name)
 }
 
+// The place of a name that is given, or the refusal of that line and field.
+pub fn given(names: &[Vec<u8>], name: &[u8], line: u32, field: u32) -> Result<usize, Fault>
+    ensures { result ≡ given_at (map vec_items names.now) line field name.now }
+{
+    find(names, name).ok_or(Fault {
+        field,
+        ..Fault::new(SheetRefusal::NotGiven.into(), line)
+    })
+}
+
+// Refuses a name that is given already.
+pub fn fresh(names: &[Vec<u8>], name: &[u8], line: u32, field: u32) -> Result<(), Fault>
+    ensures { result ≡ fresh_at (map vec_items names.now) line field name.now }
+{
+    if find(names, name).is_some() {
+        return Err(Fault {
+            field,
+            ..Fault::new(SheetRefusal::Given.into(), line)
+        });
+    }
+    Ok(())
+}
+
 // A read is told its field's number, as the meaning of each kind of line writes it. A count in the lexer would have to stop
 // at the highest u32, and each line function to require how many fields are read before it.
 impl<'a> Lexer<'a> {
@@ -26,9 +49,7 @@ impl<'a> Lexer<'a> {
         ensures line { line_of self.new ≡ line_of self.old }
     {
         let name = self.name(field)?;
-        if find(names, name).is_some() {
-            return Err(self.fault(SheetRefusal::Given, field));
-        }
+        fresh(names, name, self.line(), field)?;
         Ok(name)
     }
 
@@ -39,7 +60,7 @@ impl<'a> Lexer<'a> {
         ensures line { line_of self.new ≡ line_of self.old }
     {
         let name = self.name(field)?;
-        find(names, name).ok_or(self.fault(SheetRefusal::NotGiven, field))
+        given(names, name, self.line(), field)
     }
 
     // The places of the names that are left of the line, the first of which is the given field. A place or a field that

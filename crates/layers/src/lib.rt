@@ -6,5 +6,6 @@ mod collected;
 mod kept;
 pub mod marks;
 mod productive;
+pub mod rows;
 pub mod table;
 pub mod trim;

@@ -1,11 +1,13 @@
 // Marks on states.
-ghost use Rattle.std.specs.Prelude.{◌≡◌, ℕ, ◌<◌, true, false, ◌⊎◌, ◌≢◌, not};
+ghost use Rattle.std.specs.Prelude.{◌≡◌, ℕ, ◌<◌, true, false, ◌⊎◌, ◌≢◌, not, IfOk};
 ghost use Rattle.automata.specs.Automaton.{production, all_below};
 ghost use Rattle.automata.specs.Reading.{Member};
 ghost use Rattle.layers.specs.Marks.{mark, each_marked};
 ghost use Rattle.layers.specs.Growth.{Grows};
 
+use crate::rows::{all_marked, is_marked};
 use automata::row::Row;
+use std::alloc::{AllocError, Global};
 use std::marker::Model;
 
 // A set of states, by a mark for each that there can be.
@@ -40,14 +42,21 @@ impl Marks {
     pub fn has(&self, state: usize) -> bool
         ensures { result ≡ mark self.now state }
     {
-        self.marks.get(state).copied().unwrap_or(false)
+        is_marked(&self.marks, state)
     }
 
     // Whether each child of a row is marked.
     pub fn has_children(&self, row: Row) -> bool
         ensures { result ≡ each_marked (mark self.now) (production row).children }
     {
-        row.children().iter().all(|child| self.has(*child as usize))
+        all_marked(&self.marks, row)
+    }
+
+    // The marks as a list of the heap.
+    pub(crate) fn to_vec(&self, heap: Global) -> Result<Vec<bool>, AllocError>
+        ensures { IfOk result (λ v. v.items ≡ self.now) }
+    {
+        self.marks.to_vec(heap)
     }
 
     // Marks a state, and tells whether that is new.

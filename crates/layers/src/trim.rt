@@ -7,7 +7,7 @@ ghost use Rattle.layers.specs.Trim.{Trimmed, pruned, TrimPreserves, TrimBarren, 
 ghost use Rattle.layers.specs.Soundness.{pruned_sound};
 
 use crate::collected::Collected;
-use crate::marks::Marks;
+use crate::rows::{all_marked, is_marked};
 use crate::table::table;
 use automata::automaton::Automaton;
 use automata::measure::Measure;
@@ -21,14 +21,14 @@ use tickets::checked::CheckedTicket;
 #[derive(Drop)]
 pub struct Trim<A> {
     below: A,
-    productive: Marks,
-    kept: Marks,
+    productive: Vec<bool>,
+    kept: Vec<bool>,
 }
 
 impl<A: Automaton + Drop> Trim<A> {
     // Trims an automaton. Each of its rows is asked for once.
     pub fn new(heap: Global, below: A) -> Result<Trim<A>, AllocError>
-        ensures meaning { IfOk result (λ v. Trimmed (A.Automaton.meaning below) (pruned (mark v.kept) (mark v.productive) (A.Automaton.meaning v.below))) }
+        ensures meaning { IfOk result (λ v. Trimmed (A.Automaton.meaning below) (pruned (mark v.kept.items) (mark v.productive.items) (A.Automaton.meaning v.below))) }
     {
         let rows = table(heap, &below)?;
         let collected = Collected {
@@ -37,10 +37,12 @@ impl<A: Automaton + Drop> Trim<A> {
         };
         let usable = collected.productive();
         let reached = collected.kept(&usable);
+        let productive = usable.to_vec(heap)?;
+        let kept = reached.to_vec(heap)?;
         Ok(Trim {
             below,
-            productive: usable,
-            kept: reached,
+            productive,
+            kept,
         })
     }
 }
@@ -53,8 +55,8 @@ impl<A: Automaton> Trim<A> {
         ticket: &CheckedTicket<'_, '_>,
         scratch: &mut [M],
     ) -> Result<M, WorthRefusal>
-        ensures answers { result ≡ worth_answer M.Measure.ops (pruned (mark self.now.kept) (mark self.now.productive) (A.Automaton.meaning self.now.below)) (ticket_of ticket.now) (A.Automaton.meaning self.now.below).root (length scratch.old) }
-        ensures fills { FillsScratch M.Measure.ops (pruned (mark self.now.kept) (mark self.now.productive) (A.Automaton.meaning self.now.below)) (ticket_of ticket.now) result scratch.old scratch.new }
+        ensures answers { result ≡ worth_answer M.Measure.ops (pruned (mark self.now.kept.items) (mark self.now.productive.items) (A.Automaton.meaning self.now.below)) (ticket_of ticket.now) (A.Automaton.meaning self.now.below).root (length scratch.old) }
+        ensures fills { FillsScratch M.Measure.ops (pruned (mark self.now.kept.items) (mark self.now.productive.items) (A.Automaton.meaning self.now.below)) (ticket_of ticket.now) result scratch.old scratch.new }
         ensures preserves { TrimPreserves M.Measure.ops }
         ensures barren { TrimBarren }
         ensures one { TrimOne }
@@ -64,9 +66,9 @@ impl<A: Automaton> Trim<A> {
 }
 
 impl<A: Automaton> Automaton for Trim<A> {
-    ghost meaning = { λ s. pruned (mark s.kept) (mark s.productive) (A.Automaton.meaning s.below) };
+    ghost meaning = { λ s. pruned (mark s.kept.items) (mark s.productive.items) (A.Automaton.meaning s.below) };
 
-    ghost sound = { λ s. pruned_sound (mark s.kept) (mark s.productive) (A.Automaton.meaning s.below) (A.Automaton.sound s.below) };
+    ghost sound = { λ s. pruned_sound (mark s.kept.items) (mark s.productive.items) (A.Automaton.meaning s.below) (A.Automaton.sound s.below) };
 
     fn states(&self) -> usize {
         self.below.states()
@@ -81,11 +83,11 @@ impl<A: Automaton> Automaton for Trim<A> {
     }
 
     fn row(&self, state: usize, place: usize) -> Option<Row> {
-        if !self.kept.has(state) {
+        if !is_marked(&self.kept, state) {
             return None;
         }
         self.below
             .row(state, place)
-            .filter(|row| self.productive.has_children(*row))
+            .filter(|row| all_marked(&self.productive, *row))
     }
 }

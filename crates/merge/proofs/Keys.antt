@@ -96,7 +96,7 @@ key_decides x y = (from, to)
         (and_from (x.arity == y.arity) _ (eq-eqb x.arity y.arity (ap (λ k. k.arity) e)) ((bytes_eq-Decides x.children y.children).1 (ap (λ k. k.children) e))))
 
 -- the key of a row gives it back
-row_key : (s : Production) → row_of (key_of s) ≡ s
+pub row_key : (s : Production) → row_of (key_of s) ≡ s
 row_key s =
     let e = take-append_seam s.children (replicate (4 - length s.children) 0) in
     λ i. record { form = s.form; points = s.points; children = e i }

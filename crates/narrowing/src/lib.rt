@@ -5,3 +5,5 @@
 pub mod narrow;
 pub mod narrowed;
 pub mod restrict;
+#[cfg(test)]
+mod tests;

@@ -144,6 +144,8 @@ impl<A: Automaton, B: Automaton> Automaton for Product<A, B> {
         self.sizes.root
     }
 
+    // The call is kept, so that the layers above stay small enough to go without one.
+    #[inline(never)]
     fn row(&self, state: usize, place: usize) -> Option<Row> {
         let sizes = self.sizes;
         if state >= sizes.states || place >= sizes.places {

@@ -1,5 +1,5 @@
 // What each refusal says, in words for a person.
-ghost use Rattle.std.specs.Prelude.{Some};
+ghost use Rattle.std.specs.Prelude.{◌≡◌, Some};
 ghost use Rattle.refusals.specs.Words.{words, register_words, pile_words, settle_words, ticket_words, worth_words, search_words, sheet_words};
 
 use crate::refusal::{
@@ -8,11 +8,12 @@ use crate::refusal::{
 };
 use std::fmt;
 
-impl fmt::Display for RegisterRefusal {
-    ghost output = { λ r. Some (register_words r) };
-
-    fn fmt<W: fmt::Write>(&self, f: &mut fmt::Formatter<W>) -> fmt::Result {
-        f.write_str(match self {
+impl RegisterRefusal {
+    // What was wrong, in words for a person.
+    pub fn reason(self) -> &'static str
+        ensures { result.now ≡ register_words self }
+    {
+        match self {
             RegisterRefusal::ShortList => "the list of rows is too short",
             RegisterRefusal::HighArity => "the arity is above 4",
             RegisterRefusal::FullForms => "there are 64 forms already",
@@ -25,15 +26,24 @@ impl fmt::Display for RegisterRefusal {
             RegisterRefusal::FullState => "the state has 32 rows already",
             RegisterRefusal::NoRow => "there is no row at that place",
             RegisterRefusal::NoRoot => "no root is named",
-        })
+        }
     }
 }
 
-impl fmt::Display for PileRefusal {
-    ghost output = { λ r. Some (pile_words r) };
+impl fmt::Display for RegisterRefusal {
+    ghost output = { λ r. Some (register_words r) };
 
     fn fmt<W: fmt::Write>(&self, f: &mut fmt::Formatter<W>) -> fmt::Result {
-        f.write_str(match self {
+        f.write_str(self.reason())
+    }
+}
+
+impl PileRefusal {
+    // What was wrong, in words for a person.
+    pub fn reason(self) -> &'static str
+        ensures { result.now ≡ pile_words self }
+    {
+        match self {
             PileRefusal::ManyStates => "the product has over 1,024 states",
             PileRefusal::ManyPlaces => "the product has over 65,536 places",
             PileRefusal::LadderCount => "the highest level is above 8",
@@ -41,7 +51,30 @@ impl fmt::Display for PileRefusal {
             PileRefusal::HighLevel => "a level is above the highest one",
             PileRefusal::BarForm => "a form of the bar is not entered",
             PileRefusal::BarPosition => "the position is not below the outer form's arity",
-        })
+        }
+    }
+}
+
+impl fmt::Display for PileRefusal {
+    ghost output = { λ r. Some (pile_words r) };
+
+    fn fmt<W: fmt::Write>(&self, f: &mut fmt::Formatter<W>) -> fmt::Result {
+        f.write_str(self.reason())
+    }
+}
+
+impl SettleRefusal {
+    // What was wrong, in words for a person.
+    pub fn reason(self) -> &'static str
+        ensures { result.now ≡ settle_words self }
+    {
+        match self {
+            SettleRefusal::HasState => "the target has a state",
+            SettleRefusal::ManyReached => "over 64 states are reached",
+            SettleRefusal::ManyRows => "a reached state has over 32 rows",
+            SettleRefusal::ForeignForm => "a form is not in the target with that arity",
+            SettleRefusal::HighRow => "the points of a row are above 1,000",
+        }
     }
 }
 
@@ -49,13 +82,22 @@ impl fmt::Display for SettleRefusal {
     ghost output = { λ r. Some (settle_words r) };
 
     fn fmt<W: fmt::Write>(&self, f: &mut fmt::Formatter<W>) -> fmt::Result {
-        f.write_str(match self {
-            SettleRefusal::HasState => "the target has a state",
-            SettleRefusal::ManyReached => "over 64 states are reached",
-            SettleRefusal::ManyRows => "a reached state has over 32 rows",
-            SettleRefusal::ForeignForm => "a form is not in the target with that arity",
-            SettleRefusal::HighRow => "the points of a row are above 1,000",
-        })
+        f.write_str(self.reason())
+    }
+}
+
+impl TicketRefusal {
+    // What was wrong, in words for a person.
+    pub fn reason(self) -> &'static str
+        ensures { result.now ≡ ticket_words self }
+    {
+        match self {
+            TicketRefusal::Empty => "the ticket has no node",
+            TicketRefusal::Long => "the ticket has over 256 nodes",
+            TicketRefusal::Unknown(_) => "the form is not known",
+            TicketRefusal::Few(_) => "too few children stand before this form",
+            TicketRefusal::Many => "the ticket is more than one tree",
+        }
     }
 }
 
@@ -63,13 +105,19 @@ impl fmt::Display for TicketRefusal {
     ghost output = { λ r. Some (ticket_words r) };
 
     fn fmt<W: fmt::Write>(&self, f: &mut fmt::Formatter<W>) -> fmt::Result {
-        f.write_str(match self {
-            TicketRefusal::Empty => "the ticket has no node",
-            TicketRefusal::Long => "the ticket has over 256 nodes",
-            TicketRefusal::Unknown(_) => "the form is not known",
-            TicketRefusal::Few(_) => "too few children stand before this form",
-            TicketRefusal::Many => "the ticket is more than one tree",
-        })
+        f.write_str(self.reason())
+    }
+}
+
+impl WorthRefusal {
+    // What was wrong, in words for a person.
+    pub fn reason(self) -> &'static str
+        ensures { result.now ≡ worth_words self }
+    {
+        match self {
+            WorthRefusal::Start => "the start is no state",
+            WorthRefusal::Scratch => "the scratch is too short",
+        }
     }
 }
 
@@ -77,10 +125,19 @@ impl fmt::Display for WorthRefusal {
     ghost output = { λ r. Some (worth_words r) };
 
     fn fmt<W: fmt::Write>(&self, f: &mut fmt::Formatter<W>) -> fmt::Result {
-        f.write_str(match self {
-            WorthRefusal::Start => "the start is no state",
-            WorthRefusal::Scratch => "the scratch is too short",
-        })
+        f.write_str(self.reason())
+    }
+}
+
+impl SearchRefusal {
+    // What was wrong, in words for a person.
+    pub fn reason(self) -> &'static str
+        ensures { result.now ≡ search_words self }
+    {
+        match self {
+            SearchRefusal::Start => "the start is no state",
+            SearchRefusal::Lines => "the list of lines is too short",
+        }
     }
 }
 
@@ -88,18 +145,16 @@ impl fmt::Display for SearchRefusal {
     ghost output = { λ r. Some (search_words r) };
 
     fn fmt<W: fmt::Write>(&self, f: &mut fmt::Formatter<W>) -> fmt::Result {
-        f.write_str(match self {
-            SearchRefusal::Start => "the start is no state",
-            SearchRefusal::Lines => "the list of lines is too short",
-        })
+        f.write_str(self.reason())
     }
 }
 
-impl fmt::Display for SheetRefusal {
-    ghost output = { λ r. Some (sheet_words r) };
-
-    fn fmt<W: fmt::Write>(&self, f: &mut fmt::Formatter<W>) -> fmt::Result {
-        f.write_str(match self {
+impl SheetRefusal {
+    // What was wrong, in words for a person.
+    pub fn reason(self) -> &'static str
+        ensures { result.now ≡ sheet_words self }
+    {
+        match self {
             SheetRefusal::Long => "the sheet has over 32,768 bytes",
             SheetRefusal::Byte => "a byte is no letter, digit, hyphen or tab",
             SheetRefusal::Kind => "the record kind is not known",
@@ -109,7 +164,32 @@ impl fmt::Display for SheetRefusal {
             SheetRefusal::Given => "the name is given already",
             SheetRefusal::NotGiven => "the name is not given",
             SheetRefusal::Many => "there are too many lines of this kind",
-        })
+        }
+    }
+}
+
+impl fmt::Display for SheetRefusal {
+    ghost output = { λ r. Some (sheet_words r) };
+
+    fn fmt<W: fmt::Write>(&self, f: &mut fmt::Formatter<W>) -> fmt::Result {
+        f.write_str(self.reason())
+    }
+}
+
+impl Refusal {
+    // What was wrong, in words for a person.
+    pub fn reason(self) -> &'static str
+        ensures { result.now ≡ words self }
+    {
+        match self {
+            Refusal::Register(r) => r.reason(),
+            Refusal::Pile(r) => r.reason(),
+            Refusal::Settle(r) => r.reason(),
+            Refusal::Ticket(r) => r.reason(),
+            Refusal::Worth(r) => r.reason(),
+            Refusal::Search(r) => r.reason(),
+            Refusal::Sheet(r) => r.reason(),
+        }
     }
 }
 
@@ -117,14 +197,6 @@ impl fmt::Display for Refusal {
     ghost output = { λ r. Some (words r) };
 
     fn fmt<W: fmt::Write>(&self, f: &mut fmt::Formatter<W>) -> fmt::Result {
-        match self {
-            Refusal::Register(r) => r.fmt(f),
-            Refusal::Pile(r) => r.fmt(f),
-            Refusal::Settle(r) => r.fmt(f),
-            Refusal::Ticket(r) => r.fmt(f),
-            Refusal::Worth(r) => r.fmt(f),
-            Refusal::Search(r) => r.fmt(f),
-            Refusal::Sheet(r) => r.fmt(f),
-        }
+        f.write_str(self.reason())
     }
 }

@@ -3,6 +3,7 @@ use Rattle.std.proofs.Common.{◌≡◌, ℕ, zero, suc, ◌+◌, ◌≤◌, Boo
 use mathlib.Core.Path.{fun_ext}
 use mathlib.Core.List.{map-id}
 use Rattle.std.specs.List.{filter, list_all, range_with_len}
+use Rattle.std.proofs.Math.Bool.{and_assoc}
 use Rattle.std.proofs.lemmas.List.{length-append}
 use Rattle.std.proofs.lemmas.List.Elements.{filter-append}
 use Rattle.std.proofs.lemmas.List.FromFn.{map-range_with_len_more}
@@ -41,6 +42,14 @@ listed_filter f (suc n) =
 pub every_all : {X : Type 0} (t : X → Bool) (xs : List X) → list_all t xs ≡ every t xs
 every_all t [] = refl
 every_all t (x ∷ xs) = ap (λ b. t x && b) (every_all t xs)
+
+pub every_snoc : {X : Type 0} (t : X → Bool) (xs : List X) (x : X) → every t (xs ++ x ∷ []) ≡ every t xs && t x
+every_snoc t [] x = go (t x)
+  where
+    go : (b : Bool) → b && true ≡ b
+    go true = refl
+    go false = refl
+every_snoc t (y ∷ xs) x = ap (λ b. t y && b) (every_snoc t xs x) ∙ sym (and_assoc (t y) (every t xs) (t x))
 
 pub concat_snoc : {X : Type 0} (g : ℕ → List X) (xs : List ℕ) (x : ℕ) → concat (map g (xs ++ x ∷ [])) ≡ concat (map g xs) ++ g x
 concat_snoc g [] x = append-nil (g x)

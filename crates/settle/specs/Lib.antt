@@ -1,3 +1,4 @@
 pub mod Spread
 pub mod Entries
 pub mod Sizes
+pub mod Fits

@@ -7,6 +7,7 @@ ghost use Rattle.automata.specs.Rows.{rows_of};
 ghost use Rattle.ledger.specs.Reach.{reached_states};
 ghost use Rattle.ledger.specs.Ledger.{every, every_row, has_form, settle_answer};
 ghost use Rattle.register.specs.Held.{held};
+ghost use Rattle.settle.specs.Fits.{state_fitting};
 
 use crate::reached::Reached;
 use crate::sizes::count_rows;
@@ -33,6 +34,24 @@ fn state_passes<A: Automaton, F: Fn(Row) -> bool>(pile: &A, state: usize, test: 
     (0..pile.places())
         .filter_map(|place| pile.row(state, place))
         .all(test)
+}
+
+// Whether a state has at most 32 rows, each with a form of the list with its arity and at most 1,000 points. Each row is
+// asked for once, and the loop has three answers to carry.
+fn state_fits<A: Automaton>(pile: &A, state: usize, forms: &Forms<'_>) -> bool
+    ensures { result ≡ state_fitting (arities_of forms.now) (A.Automaton.meaning pile.now) state }
+{
+    let mut count: usize = 0;
+    let mut formed = true;
+    let mut cheap = true;
+    for place in 0..pile.places() {
+        if let Some(row) = pile.row(state, place) {
+            count += 1;
+            formed &= known(forms, row);
+            cheap &= row.points <= 1000;
+        }
+    }
+    count <= 32 && formed && cheap
 }
 
 impl<A: Automaton> Reached<'_, A> {
@@ -67,7 +86,15 @@ impl<A: Automaton> Reached<'_, A> {
         self.every(|state| state_passes(self.pile, state, |row| row.points <= 1000))
     }
 
-    // Whether the target takes the reached part, or why not.
+    // Whether no row of the reached states is refused, by one question for each.
+    fn all_fit(&self, forms: &Forms<'_>) -> bool
+        ensures { result ≡ every (state_fitting (arities_of forms.now) (A.Automaton.meaning self.now.pile.now)) (reached_states (A.Automaton.meaning self.now.pile.now)) }
+    {
+        self.every(|state| state_fits(self.pile, state, forms))
+    }
+
+    // Whether the target takes the reached part, or why not. Only where some row is refused the checks are gone through one
+    // by one, for the first that refuses.
     pub(crate) fn judged(&self, target: &Open<'_>) -> Result<(), SettleRefusal>
         ensures { result ≡ settle_answer (held target.now) (A.Automaton.meaning self.now.pile.now) }
     {
@@ -77,10 +104,14 @@ impl<A: Automaton> Reached<'_, A> {
         if self.count() > 64 {
             return Err(SettleRefusal::ManyReached);
         }
+        let forms = target.forms();
+        if self.all_fit(&forms) {
+            return Ok(());
+        }
         if !self.few_rows() {
             return Err(SettleRefusal::ManyRows);
         }
-        if !self.all_known(&target.forms()) {
+        if !self.all_known(&forms) {
             return Err(SettleRefusal::ForeignForm);
         }
         if !self.all_cheap() {

@@ -1,5 +1,5 @@
 // How large an automaton is, from its root.
-ghost use Rattle.std.specs.Prelude.{◌≡◌, length};
+ghost use Rattle.std.specs.Prelude.{◌≡◌, ◌≤◌, length};
 ghost use Rattle.automata.specs.Rows.{rows_of};
 ghost use Rattle.ledger.specs.Reach.{reached_states};
 ghost use Rattle.settle.specs.Sizes.{row_total};
@@ -16,7 +16,8 @@ pub struct Size {
 
 // How many rows a state has.
 pub(crate) fn count_rows<A: Automaton>(pile: &A, state: usize) -> usize
-    ensures { result ≡ length (rows_of (A.Automaton.meaning pile.now) state) }
+    ensures value { result ≡ length (rows_of (A.Automaton.meaning pile.now) state) }
+    ensures few { result ≤ 65536 }
 {
     (0..pile.places())
         .filter_map(|place| pile.row(state, place))
@@ -30,16 +31,6 @@ impl<A: Automaton> Reached<'_, A> {
     {
         self.number(self.pile.states())
     }
-
-    // How many rows the reached states have.
-    fn row_total(&self) -> usize
-        ensures { result ≡ row_total (A.Automaton.meaning self.now.pile.now) (reached_states (A.Automaton.meaning self.now.pile.now)) }
-    {
-        (0..self.pile.states())
-            .filter(|state| self.marks.has(*state))
-            .map(|state| count_rows(self.pile, state))
-            .sum()
-    }
 }
 
 // The size of what settle would write of the automaton.
@@ -50,6 +41,6 @@ pub fn size_of<A: Automaton>(pile: &A) -> Size
     let reached = Reached::of(pile);
     Size {
         states: reached.count(),
-        rows: reached.row_total(),
+        rows: reached.rows,
     }
 }

@@ -1,5 +1,6 @@
 // What a sheet names and collects beside the register.
 ghost use Rattle.std.specs.Prelude.{◌≡◌, ◌≤◌, vec_len};
+ghost use Rattle.std.specs.List.{All};
 
 use rules::bar::Nesting;
 
@@ -16,4 +17,6 @@ pub struct Notes {
     ghost formed: { vec_len forms ≤ 65535 },
     ghost stated: { vec_len states ≤ 65535 },
     ghost leveled: { vec_len levels ≡ vec_len forms },
+    // the position of a bar is written in 16 bits
+    ghost narrow: { All (λ b. b.position ≤ 65535) bars.items },
 }

@@ -3,73 +3,79 @@ ghost use Rattle.std.specs.Prelude.{◌≡◌};
 ghost use Rattle.fields.specs.Fault.{Steps};
 ghost use Rattle.fields.specs.Tokens.{to_read, line_of};
 ghost use Rattle.sheet.specs.Lines.{form_line, state_line, row_line, root_line, level_line, bar_line, ticket_line};
-ghost use Rattle.sheet.specs.Held.{entered};
+ghost use Rattle.sheet.specs.Held.{entered_by};
 
-use crate::reader::Reader;
+use crate::notes::Notes;
 use entries::entering::{check_bar, check_ticket, enter_form, enter_root, enter_row, enter_state};
 use fields::fault::Stop;
 use fields::lexer::Lexer;
 use refusals::refusal::SheetRefusal;
+use register::open::Open;
 use rules::bar::Nesting;
+use std::alloc::Global;
 
-// A line that changes the notes takes the reader apart first: the kit does not cover a change two fields deep in it.
-impl Reader<'_> {
+impl Notes {
     // F: name, arity.
-    pub(crate) fn form_line(&mut self, mut lexer: Lexer) -> Result<(), Stop>
-        ensures { Steps (form_line (line_of lexer.entry) (entered self.old) (to_read lexer.entry)) (entered self.old) result (entered self.new) }
+    pub(crate) fn form_line(
+        &mut self,
+        heap: Global,
+        register: &mut Open<'_>,
+        mut lexer: Lexer,
+    ) -> Result<(), Stop>
+        ensures { Steps (form_line (line_of lexer.entry) (entered_by self.old register.old) (to_read lexer.entry)) (entered_by self.old register.old) result (entered_by self.new register.new) }
     {
-        let Reader {
-            heap,
-            register,
-            notes,
-        } = self;
         lexer.expect(2, 2)?;
-        let name = lexer.fresh(&notes.forms, 2)?;
+        let name = lexer.fresh(&self.forms, 2)?;
         let arity = lexer.number(3)?;
-        let owned = name.to_vec(*heap)?;
-        if notes.forms.len() >= 65535 {
+        let owned = name.to_vec(heap)?;
+        if self.forms.len() >= 65535 {
             return Err(Stop::Memory);
         }
-        notes.forms.try_reserve(1)?;
-        notes.levels.try_reserve(1)?;
+        self.forms.try_reserve(1)?;
+        self.levels.try_reserve(1)?;
         enter_form(register, lexer.line(), arity)?;
-        notes.forms.push_reserved(owned);
-        notes.levels.push_reserved(0);
+        self.forms.push_reserved(owned);
+        self.levels.push_reserved(0);
         Ok(())
     }
 
     // S: name.
-    pub(crate) fn state_line(&mut self, mut lexer: Lexer) -> Result<(), Stop>
-        ensures { Steps (state_line (line_of lexer.entry) (entered self.old) (to_read lexer.entry)) (entered self.old) result (entered self.new) }
+    pub(crate) fn state_line(
+        &mut self,
+        heap: Global,
+        register: &mut Open<'_>,
+        mut lexer: Lexer,
+    ) -> Result<(), Stop>
+        ensures { Steps (state_line (line_of lexer.entry) (entered_by self.old register.old) (to_read lexer.entry)) (entered_by self.old register.old) result (entered_by self.new register.new) }
     {
-        let Reader {
-            heap,
-            register,
-            notes,
-        } = self;
         lexer.expect(1, 1)?;
-        let name = lexer.fresh(&notes.states, 2)?;
-        let owned = name.to_vec(*heap)?;
-        if notes.states.len() >= 65535 {
+        let name = lexer.fresh(&self.states, 2)?;
+        let owned = name.to_vec(heap)?;
+        if self.states.len() >= 65535 {
             return Err(Stop::Memory);
         }
-        notes.states.try_reserve(1)?;
+        self.states.try_reserve(1)?;
         enter_state(register, lexer.line())?;
-        notes.states.push_reserved(owned);
+        self.states.push_reserved(owned);
         Ok(())
     }
 
     // R: state, form, points, 0 to 4 children.
-    pub(crate) fn row_line(&mut self, mut lexer: Lexer) -> Result<(), Stop>
-        ensures { Steps (row_line (line_of lexer.entry) (entered self.old) (to_read lexer.entry)) (entered self.old) result (entered self.new) }
+    pub(crate) fn row_line(
+        &mut self,
+        heap: Global,
+        register: &mut Open<'_>,
+        mut lexer: Lexer,
+    ) -> Result<(), Stop>
+        ensures { Steps (row_line (line_of lexer.entry) (entered_by self.old register.old) (to_read lexer.entry)) (entered_by self.old register.old) result (entered_by self.new register.new) }
     {
         lexer.expect(3, 7)?;
-        let state = lexer.given(&self.notes.states, 2)?;
-        let form = lexer.given(&self.notes.forms, 3)?;
+        let state = lexer.given(&self.states, 2)?;
+        let form = lexer.given(&self.forms, 3)?;
         let points = lexer.number(4)?;
-        let children = lexer.places(self.heap, &self.notes.states, 5)?;
+        let children = lexer.places(heap, &self.states, 5)?;
         enter_row(
-            &mut self.register,
+            register,
             lexer.line(),
             state,
             form as u16,
@@ -80,41 +86,43 @@ impl Reader<'_> {
     }
 
     // G: root state.
-    pub(crate) fn root_line(&mut self, mut lexer: Lexer) -> Result<(), Stop>
-        ensures { Steps (root_line (line_of lexer.entry) (entered self.old) (to_read lexer.entry)) (entered self.old) result (entered self.new) }
+    pub(crate) fn root_line(
+        &mut self,
+        register: &mut Open<'_>,
+        mut lexer: Lexer,
+    ) -> Result<(), Stop>
+        ensures { Steps (root_line (line_of lexer.entry) (entered_by self.old register.old) (to_read lexer.entry)) (entered_by self.old register.old) result (entered_by self.new register.new) }
     {
         lexer.expect(1, 1)?;
-        let state = lexer.given(&self.notes.states, 2)?;
-        enter_root(&mut self.register, lexer.line(), state)?;
+        let state = lexer.given(&self.states, 2)?;
+        enter_root(register, lexer.line(), state)?;
         Ok(())
     }
 
     // L: form, level.
-    pub(crate) fn level_line(&mut self, mut lexer: Lexer) -> Result<(), Stop>
-        ensures { Steps (level_line (line_of lexer.entry) (entered self.old) (to_read lexer.entry)) (entered self.old) result (entered self.new) }
+    pub(crate) fn level_line(
+        &mut self,
+        register: &mut Open<'_>,
+        mut lexer: Lexer,
+    ) -> Result<(), Stop>
+        ensures { Steps (level_line (line_of lexer.entry) (entered_by self.old register.old) (to_read lexer.entry)) (entered_by self.old register.old) result (entered_by self.new register.new) }
     {
-        let Reader { notes, .. } = self;
         lexer.expect(2, 2)?;
-        let form = lexer.given(&notes.forms, 2)?;
+        let form = lexer.given(&self.forms, 2)?;
         let level = lexer.number(3)?;
-        notes.levels[form] = level;
+        self.levels[form] = level;
         Ok(())
     }
 
     // B: outer, position, inner; at most eight.
-    pub(crate) fn bar_line(&mut self, mut lexer: Lexer) -> Result<(), Stop>
-        ensures { Steps (bar_line (line_of lexer.entry) (entered self.old) (to_read lexer.entry)) (entered self.old) result (entered self.new) }
+    pub(crate) fn bar_line(&mut self, register: &mut Open<'_>, mut lexer: Lexer) -> Result<(), Stop>
+        ensures { Steps (bar_line (line_of lexer.entry) (entered_by self.old register.old) (to_read lexer.entry)) (entered_by self.old register.old) result (entered_by self.new register.new) }
     {
-        let Reader {
-            register,
-            notes,
-            ..
-        } = self;
         lexer.expect(3, 3)?;
-        let outer = lexer.given(&notes.forms, 2)?;
+        let outer = lexer.given(&self.forms, 2)?;
         let position = lexer.number(3)?;
-        let inner = lexer.given(&notes.forms, 4)?;
-        if notes.bars.len() >= 8 {
+        let inner = lexer.given(&self.forms, 4)?;
+        if self.bars.len() >= 8 {
             return Err(lexer.fault(SheetRefusal::Many, 1).into());
         }
         let bar = Nesting {
@@ -123,25 +131,25 @@ impl Reader<'_> {
             inner: inner as u16,
         };
         check_bar(register, lexer.line(), bar)?;
-        notes.bars.push(bar)?;
+        self.bars.push(bar)?;
         Ok(())
     }
 
     // T: any number of forms; at most 64 tickets.
-    pub(crate) fn ticket_line(&mut self, mut lexer: Lexer) -> Result<(), Stop>
-        ensures { Steps (ticket_line (line_of lexer.entry) (entered self.old) (to_read lexer.entry)) (entered self.old) result (entered self.new) }
+    pub(crate) fn ticket_line(
+        &mut self,
+        heap: Global,
+        register: &mut Open<'_>,
+        mut lexer: Lexer,
+    ) -> Result<(), Stop>
+        ensures { Steps (ticket_line (line_of lexer.entry) (entered_by self.old register.old) (to_read lexer.entry)) (entered_by self.old register.old) result (entered_by self.new register.new) }
     {
-        let Reader {
-            heap,
-            register,
-            notes,
-        } = self;
-        let nodes = lexer.places(*heap, &notes.forms, 2)?;
-        if notes.tickets.len() >= 64 {
+        let nodes = lexer.places(heap, &self.forms, 2)?;
+        if self.tickets.len() >= 64 {
             return Err(lexer.fault(SheetRefusal::Many, 1).into());
         }
         check_ticket(register, lexer.line(), &nodes)?;
-        notes.tickets.push(nodes)?;
+        self.tickets.push(nodes)?;
         Ok(())
     }
 }

@@ -15,8 +15,8 @@ returns-in_err-settled g c =
     let m = g.A.Automaton.meaning c.args.pile in
     let trim = c.in_ok-trim.trim in
     let merge = c.in_ok-merge.merge in
-    let kept = pruned (mark trim.kept) (mark trim.productive) (g.A.Automaton.meaning trim.below) in
-    let below = pruned (mark merge.below.kept) (mark merge.below.productive) (g.A.Automaton.meaning merge.below.below) in
+    let kept = pruned (mark (vec_items trim.kept)) (mark (vec_items trim.productive)) (g.A.Automaton.meaning trim.below) in
+    let below = pruned (mark (vec_items merge.below.kept)) (mark (vec_items merge.below.productive)) (g.A.Automaton.meaning merge.below.below) in
     let rep = at (vec_items merge.representatives) in
     let w : Reduced m (merged below rep) = record { kept = kept; rep = rep; trimmed = c.in_ok-trim.ensures.meaning; coarsest = c.in_ok-merge.ensures.coarsest; is = c.in_ok-merge.ensures.meaning } in
     let e = err_from_is_err_and c.from_residual-in_err-settled.result c.from_residual-in_err-settled.ensures.1 in
@@ -27,8 +27,8 @@ returns g c =
     let m = g.A.Automaton.meaning c.args.pile in
     let trim = c.in_ok-trim.trim in
     let merge = c.in_ok-merge.merge in
-    let kept = pruned (mark trim.kept) (mark trim.productive) (g.A.Automaton.meaning trim.below) in
-    let below = pruned (mark merge.below.kept) (mark merge.below.productive) (g.A.Automaton.meaning merge.below.below) in
+    let kept = pruned (mark (vec_items trim.kept)) (mark (vec_items trim.productive)) (g.A.Automaton.meaning trim.below) in
+    let below = pruned (mark (vec_items merge.below.kept)) (mark (vec_items merge.below.productive)) (g.A.Automaton.meaning merge.below.below) in
     let rep = at (vec_items merge.representatives) in
     let w : Reduced m (merged below rep) = record { kept = kept; rep = rep; trimmed = c.in_ok-trim.ensures.meaning; coarsest = c.in_ok-merge.ensures.coarsest; is = c.in_ok-merge.ensures.meaning } in
     record {

@@ -2,6 +2,7 @@ use Rattle.std.proofs.Common.{◌+◌, sym, subst}
 use Rattle.automata.specs.Automaton.{production}
 use Rattle.layers.specs.Marks.{mark}
 use Rattle.layers.proofs.Readiness.{row_within}
+use Rattle.settle.proofs.Totals.{rowed_add, rowed_skip}
 use Rattle.settle.proofs.Spreading.{Spread, spread_none, spread_row}
 use Rattle.settle.proofs.reached.mark_next.Goals as goal
 use Rattle.settle.proofs.reached.mark_next.Goals.{in-Some, in_default}
@@ -20,10 +21,14 @@ loop-place-preserved g c =
     let k = c.loop-place.place in
     let old = mark c.args.marks.now in
     let new = mark c.loop-place.marks in
+    let i = c.loop-place.invariant in
     elim c.match-row.branch [
       | in-Some w ↦
           let e = w.add_children.ensures in
-          subst (λ z. Spread m sm s k old (mark z) (k + 1)) (sym w.marks-is)
-          (spread_row m sm s k old new (mark w.add_children.new.self) (production w.in-Some.row) (c.requires.right s c.requires.here) (sym w.in-Some.ensures) c.loop-place.invariant e.grows.keeps e.all e.from)
-      | in_default w ↦ subst (λ z. Spread m sm s k old (mark z) (k + 1)) (sym w.marks-is) (spread_none m sm s k old new (sym w.in_default.ensures) c.loop-place.invariant)
+          let h = subst (λ z. Spread m sm s k old (mark z) (k + 1)) (sym w.marks-is)
+          (spread_row m sm s k old new (mark w.add_children.new.self) (production w.in-Some.row) (c.requires.right s c.requires.here) (sym w.in-Some.ensures) (i.1, i.2, i.3) e.grows.keeps e.all e.from) in
+          (rowed_add m s k c.loop-place.rows _ (production w.in-Some.row) i.0 (sym w.in-Some.ensures) w.rows-is, h.0, h.1, h.2)
+      | in_default w ↦
+          let h = subst (λ z. Spread m sm s k old (mark z) (k + 1)) (sym w.marks-is) (spread_none m sm s k old new (sym w.in_default.ensures) (i.1, i.2, i.3)) in
+          (rowed_skip m s k c.loop-place.rows _ i.0 (sym w.in_default.ensures) w.rows-is, h.0, h.1, h.2)
     ]
