@@ -1,7 +1,7 @@
 -- The rows of a state place by place, and settle's answer by its checks.
 use Rattle.std.proofs.Common.{◌≡◌, ℕ, ◌+◌, ◌<◌, ◌≤◌, Bool, true, false, cond, ◌&&◌, leb, List, [], ◌∷◌, ◌++◌, length, Some, None, Ok, Err, Result, sym, refl, ap, ◌∙◌, append-nil, add-one, arith}
 use Rattle.std.specs.Option.{option_to_list}
-use Rattle.std.proofs.lemmas.Bool.{le-leb, lt-leb, and_parts}
+use Rattle.std.proofs.lemmas.Bool.{le-leb, lt-leb, and_parts, true≢false}
 use Rattle.std.proofs.lemmas.List.{length-append}
 use Rattle.automata.specs.Automaton.{Meaning, Production}
 use Rattle.refusals.specs.declared.refusal.SettleRefusal.{SettleRefusal}
@@ -48,6 +48,16 @@ every_three a b c (x ∷ xs) h =
     let r = every_three a b c xs t.1 in
     (ap (λ z. z && every a xs) u.0 ∙ r.0, ap (λ z. z && every b xs) v.0 ∙ r.1, ap (λ z. z && every c xs) v.1 ∙ r.2)
 
+-- and what passes each passes all three at once
+pub every_of_three : {X : Type 0} (a b c : X → Bool) (xs : List X) → every a xs ≡ true → every b xs ≡ true → every c xs ≡ true → every (λ x. a x && (b x && c x)) xs ≡ true
+every_of_three a b c [] ha hb hc = refl
+every_of_three a b c (x ∷ xs) ha hb hc =
+    let r = every (λ y. a y && (b y && c y)) xs in
+    let u = and_parts (a x) (every a xs) ha in
+    let v = and_parts (b x) (every b xs) hb in
+    let w = and_parts (c x) (every c xs) hc in
+    ap (λ z. (z && (b x && c x)) && r) u.0 ∙ ap (λ z. (z && c x) && r) v.0 ∙ ap (λ z. z && r) w.0 ∙ every_of_three a b c xs u.1 v.1 w.1
+
 -- settle's answer by its tests
 abbrev pub by_tests : Bool → Bool → Bool → Bool → Bool → Result (Unit {0}) SettleRefusal
 by_tests a b c d e = cond a (cond b (cond c (cond d (cond e (Ok tt) (Err HighRow)) (Err ForeignForm)) (Err ManyRows)) (Err ManyReached)) (Err HasState)
@@ -87,3 +97,11 @@ module _ (l : Ledger) (m : Meaning) where
       all_fitting arities q h =
           let t = every_three (λ s. leb (length (rows_of m s)) 32) (λ s. every (has_form arities) (rows_of m s)) (λ s. every (λ p. leb p.points 1000) (rows_of m s)) (reached_states m) (sym h) in
           fitted true true true (sym t.0) (sym t.1 ∙ ap (λ z. every_row (has_form z) m) q) (sym t.2)
+
+      -- some row is refused, and not for the number of rows or a form
+      pub high_row : (arities : List ℕ) → arities ≡ l.arities → every (state_fitting arities m) (reached_states m) ≡ false → Few true → true ≡ every_row (has_form arities) m → Err HighRow ≡ settle_answer l m
+      high_row arities q low hf hk = go (every_row (λ p. leb p.points 1000) m) refl
+        where
+          go : (e : Bool) → e ≡ every_row (λ p. leb p.points 1000) m → Err HighRow ≡ settle_answer l m
+          go true h = absurd (true≢false (sym (every_of_three (λ s. leb (length (rows_of m s)) 32) (λ s. every (has_form arities) (rows_of m s)) (λ s. every (λ p. leb p.points 1000) (rows_of m s)) (reached_states m) (sym hf) (sym hk) (sym h)) ∙ low))
+          go false h = fitted true true false hf (hk ∙ ap (λ z. every_row (has_form z) m) q) h

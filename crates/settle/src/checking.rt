@@ -79,13 +79,6 @@ impl<A: Automaton> Reached<'_, A> {
         self.every(|state| state_passes(self.pile, state, |row| known(forms, row)))
     }
 
-    // Whether no row of the reached states has over 1,000 points.
-    fn all_cheap(&self) -> bool
-        ensures { result ≡ every_row (λ p. leb p.points 1000) (A.Automaton.meaning self.now.pile.now) }
-    {
-        self.every(|state| state_passes(self.pile, state, |row| row.points <= 1000))
-    }
-
     // Whether no row of the reached states is refused, by one question for each.
     fn all_fit(&self, forms: &Forms<'_>) -> bool
         ensures { result ≡ every (state_fitting (arities_of forms.now) (A.Automaton.meaning self.now.pile.now)) (reached_states (A.Automaton.meaning self.now.pile.now)) }
@@ -94,7 +87,7 @@ impl<A: Automaton> Reached<'_, A> {
     }
 
     // Whether the target takes the reached part, or why not. Only where some row is refused the checks are gone through one
-    // by one, for the first that refuses.
+    // by one, for the first that refuses; where the first two pass, it is the last.
     pub(crate) fn judged(&self, target: &Open<'_>) -> Result<(), SettleRefusal>
         ensures { result ≡ settle_answer (held target.now) (A.Automaton.meaning self.now.pile.now) }
     {
@@ -114,9 +107,6 @@ impl<A: Automaton> Reached<'_, A> {
         if !self.all_known(&forms) {
             return Err(SettleRefusal::ForeignForm);
         }
-        if !self.all_cheap() {
-            return Err(SettleRefusal::HighRow);
-        }
-        Ok(())
+        Err(SettleRefusal::HighRow)
     }
 }

@@ -1,7 +1,7 @@
 use Rattle.std.proofs.Common.{true, false, sym, ap, ◌∙◌, refl, arith}
 use Rattle.ledger.specs.Ledger.{every_row, has_form}
 use Rattle.register.specs.Held.{held}
-use Rattle.settle.proofs.Fitting.{has_state, many_reached, fitted, all_fitting}
+use Rattle.settle.proofs.Fitting.{has_state, many_reached, fitted, all_fitting, high_row}
 use Rattle.settle.proofs.reached.Reached.judged.Goals as goal
 
 pub returns-then-states-gt0 : goal.returns-then-states-gt0
@@ -27,14 +27,7 @@ returns-then-not-all_known g c =
     fitted (held c.args.target.now) m (omega (arith, c.states.ensures, c.if-states-gt0.false)) (omega (arith, c.count.ensures, c.if-count-gt64.false))
     true false _ (sym c.if-not-few_rows.false ∙ c.few_rows.ensures) (sym c.if-not-all_known.true ∙ c.all_known.ensures ∙ ap (λ z. every_row (has_form z) m) c.forms-forms.ensures) refl
 
-pub returns-then-not-all_cheap : goal.returns-then-not-all_cheap
-returns-then-not-all_cheap g c =
-    let m = g.A.Automaton.meaning c.args.self.now.pile.now in
-    fitted (held c.args.target.now) m (omega (arith, c.states.ensures, c.if-states-gt0.false)) (omega (arith, c.count.ensures, c.if-count-gt64.false))
-    true true false (sym c.if-not-few_rows.false ∙ c.few_rows.ensures) (sym c.if-not-all_known.false ∙ c.all_known.ensures ∙ ap (λ z. every_row (has_form z) m) c.forms-forms.ensures) (sym c.if-not-all_cheap.true ∙ c.all_cheap.ensures)
-
 pub returns : goal.returns
 returns g c =
-    let m = g.A.Automaton.meaning c.args.self.now.pile.now in
-    fitted (held c.args.target.now) m (omega (arith, c.states.ensures, c.if-states-gt0.false)) (omega (arith, c.count.ensures, c.if-count-gt64.false))
-    true true true (sym c.if-not-few_rows.false ∙ c.few_rows.ensures) (sym c.if-not-all_known.false ∙ c.all_known.ensures ∙ ap (λ z. every_row (has_form z) m) c.forms-forms.ensures) (sym c.if-not-all_cheap.false ∙ c.all_cheap.ensures)
+    high_row (held c.args.target.now) (g.A.Automaton.meaning c.args.self.now.pile.now) (omega (arith, c.states.ensures, c.if-states-gt0.false)) (omega (arith, c.count.ensures, c.if-count-gt64.false))
+    _ c.forms-forms.ensures (sym c.all_fit.ensures ∙ c.if-all_fit.false) (sym c.if-not-few_rows.false ∙ c.few_rows.ensures) (sym c.if-not-all_known.false ∙ c.all_known.ensures)
