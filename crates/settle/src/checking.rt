@@ -1,4 +1,4 @@
-// The checks of settle, each over all reached states and their rows before the next.
+// The checks of settle over all reached states and their rows: all at once, and where a row is refused each before the next.
 ghost use Rattle.std.specs.Prelude.{◌≡◌, ℕ, Bool, leb, length};
 ghost use Rattle.automata.specs.Automaton.{Production, production};
 ghost use Rattle.automata.specs.declared.row.Row.{Row as TheRow};
